@@ -9,8 +9,9 @@ from __future__ import annotations
 import enum
 import os
 import time
+from collections.abc import Callable, Iterable, Sequence
 from dataclasses import dataclass
-from typing import Callable, Dict, Iterable, List, Optional, Sequence, Set, Tuple
+from itertools import product
 
 from .files import read, size_folder
 
@@ -39,21 +40,19 @@ class SizeCounter(enum.Enum):
 class Counts:
     """Statistics at one moment; None where this kernel doesn't have one."""
 
-    machine: Dict[Counter, Optional[int]]
-    sizes: Dict[Tuple[SizeCounter, int], Optional[int]]  # by order
+    machine: dict[Counter, int | None]
+    sizes: dict[tuple[SizeCounter, int], int | None]  # by order
 
     def since(self, before: Counts) -> Counts:
         """Returns what was added since an earlier moment."""
 
-        def less(now: Optional[int], then: Optional[int]) -> Optional[int]:
+        def less(now: int | None, then: int | None) -> int | None:
             return None if now is None or then is None else now - then
 
-        return Counts(
-            {key: less(value, before.machine[key]) for key, value in self.machine.items()},
-            {key: less(value, before.sizes[key]) for key, value in self.sizes.items()},
-        )
+        return Counts({key: less(value, before.machine[key]) for key, value in self.machine.items()},
+                      {key: less(value, before.sizes[key]) for key, value in self.sizes.items()})
 
-    def names(self) -> List[str]:
+    def names(self) -> list[str]:
         """Returns the names of the statistics that aren't 0."""
         machine = [key.value for key, value in self.machine.items() if value]
         return machine + [f"{key.value} of order {order}" for (key, order), value in self.sizes.items() if value]
@@ -61,14 +60,12 @@ class Counts:
 
 def counts(orders: Iterable[int]) -> Counts:
     """Returns the statistics now; those by size for these orders."""
-    lines: Dict[str, str] = dict(line.split(" ", 1) for line in read("/proc/vmstat").split("\n") if " " in line)
-    machine = {key: int(lines[key.value]) if key.value in lines else None for key in Counter}
-    sizes: Dict[Tuple[SizeCounter, int], Optional[int]] = {}
-    for order in orders:
-        for key in SizeCounter:
-            path = f"{size_folder(order)}/stats/{key.value}"
-            sizes[key, order] = int(read(path)) if os.path.exists(path) else None
-    return Counts(machine, sizes)
+    lines: dict[str, str] = dict(line.split(" ", 1) for line in read("/proc/vmstat").split("\n") if " " in line)
+    sizes: dict[tuple[SizeCounter, int], int | None] = {}
+    for order, key in product(orders, SizeCounter):
+        path = f"{size_folder(order)}/stats/{key.value}"
+        sizes[key, order] = int(read(path)) if os.path.exists(path) else None
+    return Counts({key: int(lines[key.value]) if key.value in lines else None for key in Counter}, sizes)
 
 
 class CounterWatch:
@@ -80,9 +77,8 @@ class CounterWatch:
 
     def __init__(self, orders: Iterable[int], wait: Callable[[float], None] = time.sleep,
                  take: Callable[[Sequence[int]], Counts] = counts) -> None:
-        self._orders = sorted(set(orders))
-        self._wait, self._take = wait, take
-        self.moved: Set[str] = set()
+        self._orders, self._wait, self._take = sorted(set(orders)), wait, take
+        self.moved: set[str] = set()
 
     def watch_once(self, seconds: float = WINDOW) -> bool:
         """Watches the counters for a time, and returns whether none moved. The tool must change nothing meanwhile."""

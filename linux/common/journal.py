@@ -3,8 +3,9 @@
 from __future__ import annotations
 
 import re
+from collections.abc import Iterator, Sequence
 from dataclasses import dataclass, field
-from typing import Iterator, Protocol, Sequence
+from typing import Protocol
 
 from .errors import InputFault
 from .files import PMD_ORDER
@@ -39,7 +40,6 @@ class Event:
 _WORDS = ("alloc", "splitpmd", "mapwhole", "unmapwhole", "mapsub", "unmapsub", "pin", "unpin", "write", "zero", "taken",
           "split", "pinned", "used", "back", "dropped", "close")
 _NUMBER = re.compile("[0-9]{1,9}")
-_SET = re.compile("-|[0-9]{1,3}(-[0-9]{1,3})?(,[0-9]{1,3}(-[0-9]{1,3})?)*")
 _NODE = re.compile("node [0-7] blocks ([0-9]{1,4})(?: order ([2-9])(?: underused (off|[0-9]{1,3}))?)?")
 
 
@@ -49,22 +49,17 @@ def _number(text: str) -> int:
     return int(text)
 
 
-def _set(text: str) -> int:
-    if not _SET.fullmatch(text):
-        raise ValueError(text)
-    return set_of(text)
-
-
 def event_of(line: str) -> Event:
-    """Returns the event of a line. ValueError or IndexError where it isn't one."""
+    """Returns the event of a line. ValueError, IndexError or InputFault where it isn't one."""
     words = line.split(" ")
     caller, word = _number(words[0]), words[1]
     page = _number(words[2]) if len(words) > 2 else None
     first, count = (_number(words[3]), _number(words[4])) if word in _RANGES else (0, 0)
     outcome = words[-2] if word in _OUTCOMES else ""
-    given = _set(words[-1]) if outcome or word == "split" else 0
+    given = set_of(words[-1]) if outcome or word == "split" else 0
     event = Event(caller, word, page, first, count, outcome, given)
-    if word not in _WORDS or outcome not in ("", "stays", "queued", "freed") or event.text() != line:
+    is_known = word in _WORDS and outcome in ("", "stays", "queued", "freed") and (page is None) == (word == "close")
+    if not is_known or event.text() != line:
         raise ValueError(line)
     return event
 
@@ -142,7 +137,7 @@ def journal_of(text: str) -> list[NodeJournal]:
                 nodes.append(_node_of(line))
             else:
                 nodes[-1].events.append(event_of(line))
-        except (ValueError, IndexError, KeyError) as error:
+        except (ValueError, IndexError, InputFault) as error:
             raise InputFault(f"line {number} of the journal is neither a node nor an event") from error
     return nodes
 

@@ -7,11 +7,12 @@ import re
 import shutil
 import signal
 import subprocess
+from collections.abc import Sequence
 from contextlib import suppress
 from dataclasses import dataclass
 from functools import lru_cache
 from pathlib import Path
-from typing import IO, Sequence, Union
+from typing import IO, Union
 
 from .errors import InputFault, RunFailed, Unavailable, signals_wait
 from .files import read_input
@@ -57,14 +58,6 @@ def find(name: str, built: Path, given: str | None = None) -> str | None:
             return str(place)
     found = shutil.which(name)
     return os.path.abspath(found) if found else None
-
-
-def find_program(given: str | None = None) -> str:
-    """Returns the path of `thpsplit`, as `find` looks for it; Unavailable where there is none."""
-    found = find("thpsplit", BUILT, given)
-    if not found:
-        raise Unavailable("no thpsplit: build it (make run), or name it by --program or THPSPLIT")
-    return found
 
 
 Stream = Union[int, IO[bytes], None]
@@ -155,10 +148,13 @@ def check(path: str, options: Sequence[str], journal: str | int) -> Verdict:
 
 
 class Program:
-    """The program at a path, by default the one that `find_program` finds."""
+    """`thpsplit`, as `find` looks for it. Unavailable where there is none."""
 
-    def __init__(self, path: str | None = None) -> None:
-        self.path = find_program(path)
+    def __init__(self, given: str | None = None) -> None:
+        found = find("thpsplit", BUILT, given)
+        if not found:
+            raise Unavailable("no thpsplit: build it (make run), or name it by --program or THPSPLIT")
+        self.path = found
 
     def report(self, kind: str, text: str, options: Sequence[str] = ()) -> str:
         """Returns a report on a script: `answers` or `journal`. TextError where the script has an error."""

@@ -9,9 +9,10 @@ from __future__ import annotations
 import os
 import re
 import stat
+from collections.abc import Callable, Sequence
 from dataclasses import dataclass
 from pathlib import Path
-from typing import Any, Callable, Sequence
+from typing import Any
 
 from .arguments import parse_pairs, whole, wholes
 from .errors import InputFault
@@ -65,10 +66,11 @@ def options_of(words: Sequence[str]) -> Options:
 
 @dataclass(frozen=True)
 class Command:
-    """One command: the section (0: setup) and the words."""
+    """One command: the section (0: setup), the words, and the place among a script's commands, from 1."""
 
     section: int
     words: Sequence[str]
+    place: int = 0
 
 
 @dataclass(frozen=True)
@@ -82,13 +84,14 @@ class Script:
     def commands(self) -> list[Command]:
         """Returns the commands in order. InputFault where a section has no number; `thpsplit` finds all other faults
         of a text."""
-        out, section = [], 0
+        out: list[Command] = []
+        section = 0
         for place, line in enumerate(text_lines(self.text), 1):
             words = line.split(" ")
             if not line or line.startswith("#"):
                 continue
             if words[0] not in ("setup", "worker"):
-                out.append(Command(section, words))
+                out.append(Command(section, words, len(out) + 1))
                 continue
             section = 0
             if words[0] == "worker":
@@ -98,20 +101,22 @@ class Script:
         return out
 
 
+def text_of(commands: Sequence[Command]) -> str:
+    """Returns the text of commands, with their sections."""
+    lines, section = [], -1
+    for command in commands:
+        if command.section != section:
+            section = command.section
+            lines.append(f"worker {section}" if section else "setup")
+        lines.append(" ".join(command.words))
+    return "".join(f"{line}\n" for line in lines)
+
+
 def script_of(name: str, text: str, given: Sequence[str] = ()) -> Script:
     """Returns a script by its text; words given override those of its first line."""
     first = text.split("\n", 1)[0]
     own = first[len(MARK):].split() if first.startswith(MARK) else []
     return Script(name, text, options_of([*own, *given]))
-
-
-def _text_of(path: str) -> str:
-    """Returns the text of a file that a user named. InputFault where it can't be read or isn't ASCII."""
-    try:
-        return read_input(path).decode("ascii")
-    except UnicodeDecodeError as error:
-        byte = error.object[error.start]
-        raise InputFault(f"{escape(path)} is no script: byte {byte:#04x} at offset {error.start} isn't ASCII") from error
 
 
 def _settings_beside(path: str) -> list[str]:
@@ -132,7 +137,13 @@ def _settings_beside(path: str) -> list[str]:
 
 
 def read_script(path: str, given: Sequence[str] = ()) -> Script:
-    """Reads a script from a file, with the settings beside it, or from standard input (`-`)."""
+    """Reads a script from a file, with the settings beside it, or from standard input (`-`). InputFault where it can't be read or
+    isn't ASCII."""
+    try:
+        text = read_input(path).decode("ascii")
+    except UnicodeDecodeError as error:
+        byte = error.object[error.start]
+        raise InputFault(f"{escape(path)} is no script: byte {byte:#04x} at offset {error.start} isn't ASCII") from error
     if path == "-":
-        return script_of("standard-input", _text_of(path), given)
-    return script_of(Path(path).name, _text_of(path), [*_settings_beside(path), *given])
+        return script_of("standard-input", text, given)
+    return script_of(Path(path).name, text, [*_settings_beside(path), *given])

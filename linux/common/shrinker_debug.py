@@ -7,7 +7,7 @@ Rules: Documentation/admin-guide/mm/shrinker_debugfs.rst and mm/shrinker_debug.c
 from __future__ import annotations
 
 import os
-from typing import List
+from pathlib import Path
 
 from .errors import RunFailed, Unavailable
 from .files import write
@@ -16,16 +16,16 @@ FOLDER, PREFIX = "/sys/kernel/debug/shrinker", "thp-deferred_split-"
 
 
 class ShrinkerFile:
-    """The file `scan` of the shrinker. Unavailable where the kernel has none."""
+    """The file `scan` of the shrinker. Unavailable where the kernel has none, or control groups are of version 1, which it
+    doesn't find."""
 
-    def __init__(self, folder: str = FOLDER) -> None:
-        try:
-            found: List[str] = sorted(name for name in os.listdir(folder) if name.startswith(PREFIX))
-        except OSError:
-            found = []
+    def __init__(self, version: int, folder: str = FOLDER) -> None:
+        if version != 2:
+            raise Unavailable("exact scans need control groups of version 2")
+        found = sorted(Path(folder).glob(f"{PREFIX}*"))
         if not found:
             raise Unavailable(f"no {folder}/{PREFIX}*: the kernel lacks SHRINKER_DEBUG, or debugfs isn't mounted")
-        self._path = f"{folder}/{found[0]}/scan"
+        self._path = found[0] / "scan"
 
     def scan(self, group: str, numa_node: int, count: int) -> None:
         """Scans so many pages of the queue of a control group, by its folder, and of a NUMA node."""
@@ -33,10 +33,3 @@ class ShrinkerFile:
             write(self._path, f"{os.stat(group).st_ino} {numa_node} {count}")
         except OSError as error:
             raise RunFailed(f"{self._path} doesn't scan: {error.strerror}") from error
-
-
-def find_shrinker(version: int, folder: str = FOLDER) -> ShrinkerFile:
-    """Returns the shrinker's file. Unavailable where the kernel has none, or groups are of version 1, which it doesn't find."""
-    if version != 2:
-        raise Unavailable("exact scans need control groups of version 2")
-    return ShrinkerFile(folder)

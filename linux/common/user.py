@@ -85,7 +85,8 @@ def user_without_rights() -> User:
     caller where this tool isn't root. Unavailable where there is no such number."""
     if os.geteuid() != 0:
         return User(os.geteuid(), os.getegid(), [], "", "/")
-    high = min(UNUSED.stop, _count_mapped("uid"), _count_mapped("gid"))
+    maps = [[map(int, line.split()) for line in read(f"/proc/self/{kind}_map").splitlines()] for kind in ("uid", "gid")]
+    high = min(UNUSED.stop, *(max(first + count for first, _, count in each) for each in maps))
     low = max(high - len(UNUSED), high // 2)  # a user namespace may have few numbers
     used = _numbers_of_processes()
     for _ in range(TRIES):
@@ -93,12 +94,6 @@ def user_without_rights() -> User:
         if number not in used and not _has_account(number):
             return User(number, number, [], "", "/")
     raise Unavailable("no number of a user is unused here")
-
-
-def _count_mapped(kind: str) -> int:
-    """Returns the end of the numbers of users or groups that this user namespace has."""
-    lines = [line.split() for line in read(f"/proc/self/{kind}_map").splitlines()]
-    return max(int(first) + int(count) for first, _, count in lines)
 
 
 def _numbers_of_processes() -> set[int]:

@@ -17,7 +17,7 @@ from ..common.text import escape, one_line, text_lines
 from ..common.tool import run_tool
 from .bench import open_session
 from .letters import Match, find_all, look_on, markdown
-from .options import NAME, FoundScripts, list_scripts, parse_words
+from .options import NAME, list_scripts, parse_words
 from .reports import FAIL, SKIP, JsonReport, KtapReport, Report, RunHead, SumLine, kselftest_status
 from .runner import Outcome, Result, RunComparer, Runner, ignore_line
 from .shrinking import Shrinker, SmallScript
@@ -31,92 +31,81 @@ class Folder:
         self._folder = OwnFolder(path)
         self._used: set[str] = set()
 
-    def stem(self, name: str) -> str:
-        """Returns a name that no script of the run had before."""
+    def write(self, name: str, texts: dict[str, str]) -> None:
+        """Writes files of one name, by their endings."""
         number, stem = 1, name
         while stem in self._used:
             number += 1
             stem = f"{name}-{number}"
         self._used.add(stem)
-        return stem
-
-    def write(self, name: str, text: str) -> None:
-        """Writes a file."""
-        with self._folder.create(name) as file:
-            file.write(text)
+        for ending, text in texts.items():
+            with self._folder.create(f"{stem}{ending}") as file:
+                file.write(text)
 
 
 class Sums:
     """The outcomes counted, and files that are kept."""
 
     def __init__(self, options: argparse.Namespace) -> None:
-        self._keep = Folder(options.keep) if options.keep else None
-        self._store = Folder(options.store) if options.store else None
-        self.results: dict[Result, int] = Tallies()
-        self._letters: dict[str, int] = Tallies()
-        self._reasons: dict[str, int] = Tallies()
+        self._keep, self._store = (Folder(path) if path else None for path in (options.keep, options.store))
+        self._results: Tallies[Result] = Tallies()
+        self._letters: Tallies[str] = Tallies()
+        self._reasons: Tallies[str] = Tallies()
 
-    def add(self, script: Script, outcome: Outcome, small: SmallScript | None, looks: list[Observation] | None) -> None:
+    def add(self, script: Script, outcome: Outcome, small: SmallScript | None, looks: list[Observation]) -> None:
         """Counts an outcome, and writes the files that were asked for."""
-        self.results[outcome.result] += 1
-        for letter in outcome.known:
-            self._letters[letter] += 1
+        self._results[outcome.result] += 1
+        self._letters.update(outcome.known)
         if outcome.result is Result.SKIPPED:
             self._reasons[outcome.text] += 1
         if self._keep and outcome.result is Result.DIFFERS:
-            stem = self._keep.stem(script.name)
-            self._keep.write(f"{stem}.script", script.text)
-            if small:
-                self._keep.write(f"{stem}.smallest.script", small.text())
+            self._keep.write(script.name, {".script": script.text, **({".smallest.script": small.text()} if small else {})})
         if self._store and looks:
-            name = self._store.stem(script.name.replace(".script", ""))
-            self._store.write(f"{name}.looks", "".join(f"{look.line()}\n" for look in looks))
             head = "" if script.text.startswith(MARK) else f"{MARK}{' '.join(script.options.words())}\n"
-            self._store.write(f"{name}.script", head + script.text)
+            shown = "".join(f"{look.line()}\n" for look in looks)
+            self._store.write(script.name.replace(".script", ""), {".looks": shown, ".script": head + script.text})
 
     def lines(self, sums: dict[str, int]) -> list[SumLine]:
         """Returns the sums: how many, and of what."""
-        lines = [(self.results[result], result.value) for result in Result]
+        lines = [(self._results[result], result.value) for result in Result]
         lines += [(many, f"with known difference {letter}") for letter, many in sorted(self._letters.items())]
         lines += [(many, f"skipped: {reason}") for reason, many in sorted(self._reasons.items())]
         return [*lines, *((many, what) for what, many in sorted(sums.items()))]
 
     def status(self) -> int:
         """Returns the status of a run to its end. Unavailable where nothing was compared."""
-        if self.results[Result.DIFFERS]:
-            return DIFFERS
-        if self.results[Result.INCONCLUSIVE]:
-            return INCONCLUSIVE
-        if not self.results[Result.AGREES]:
-            raise Unavailable("no script could be compared")
-        return DONE
+        for result, status in ((Result.DIFFERS, DIFFERS), (Result.INCONCLUSIVE, INCONCLUSIVE), (Result.AGREES, DONE)):
+            if self._results[result]:
+                return status
+        raise Unavailable("no script could be compared")
 
 
-def run_all(options: argparse.Namespace, found: FoundScripts, report: Report) -> int:
+def run_all(options: argparse.Namespace, report: Report) -> int:
     """Runs scripts on this kernel."""
+    count, scripts = list_scripts(options)
     zeros = None if options.fill is None else options.fill == "zeros"
-    command = report.print_command if options.verbose else ignore_line
-    comparer = RunComparer(report=command, looks=[] if options.store else None)
-    with open_session(NAME, options.program, not options.no_memory, options.wait, options.exact_scans) as session:
+    looks: list[Observation] = []
+    comparer = RunComparer(report=report.print_command if options.verbose else ignore_line, looks=looks if options.store else None)
+    with open_session(NAME, options, options.exact_scans) as session:
         sums = Sums(options)
-        report.begin(RunHead(session.parts, session.program.path, session.reads_queues, found.count))
+        report.begin(RunHead(session.parts, session.program.path, session.bench.memory is not None, count))
         runner = Runner(session.bench, session.program, comparer)
         quiet_runner = Runner(session.bench, session.program, RunComparer())
         shrinker = Shrinker(lambda script: quiet_runner.run(script, zeros), options.shrink)
-        for script in found.scripts:
+        for script in scripts:
             outcome, small = runner.run(script, zeros), None
             try:
                 small = shrinker.shrink_first(script, outcome)
             finally:  # a signal, too, leaves the outcome reported
                 report.print_script(script, outcome, small)
-                sums.add(script, outcome, small, comparer.looks)
+                sums.add(script, outcome, small, looks)
     report.end(sums.lines(comparer.sums))
     return sums.status()
 
 
 def fingerprint(options: argparse.Namespace) -> int:
     """Prints how this kernel does each known difference."""
-    with open_session(NAME, options.program, not options.no_memory, options.wait) as session:
+    with open_session(NAME, options) as session:
         found = find_all(look_on(session))
     if options.markdown:
         lines = markdown(found, os.uname().release)
@@ -135,7 +124,7 @@ def run_for_kselftest(options: argparse.Namespace) -> int:
     """Runs scripts, and returns kselftest's statuses; an error is also in the output."""
     report = KtapReport()
     try:
-        return kselftest_status(run_all(options, list_scripts(options), report))
+        return kselftest_status(run_all(options, report))
     except (Unavailable, Busy, InputFault, RunFailed) as error:
         status_of(NAME, error)
         is_skip = isinstance(error, (Unavailable, Busy))
@@ -160,14 +149,11 @@ def replay(options: argparse.Namespace) -> int:
         raise InputFault("no script: name one, or ask for random ones (--random COUNT)")
     if options.tap and not options.show:
         return run_for_kselftest(options)
-    found = list_scripts(options)
     if options.show:
-        for script in found.scripts:
+        for script in list_scripts(options)[1]:
             print("".join(f"{escape(line)}\n" for line in text_lines(script.text)))
         return DONE
-    if options.json:
-        return run_all(options, found, JsonReport())
-    return run_all(options, found, Report(options.quiet))
+    return run_all(options, JsonReport() if options.json else Report(options.quiet))
 
 
 def start() -> NoReturn:

@@ -2,10 +2,11 @@
 
 from __future__ import annotations
 
+import argparse
 import os
 import resource
 from collections.abc import Iterator
-from contextlib import contextmanager
+from contextlib import closing, contextmanager
 from dataclasses import dataclass
 
 from ..common import machine
@@ -17,7 +18,7 @@ from ..common.kernel_memory import KernelMemory
 from ..common.page_files import Frames
 from ..common.program import Program
 from ..common.script import Options
-from ..common.shrinker_debug import ShrinkerFile, find_shrinker
+from ..common.shrinker_debug import ShrinkerFile
 from .expected_answers import Unsupported
 from .mappers import Mapper, Mappers
 
@@ -27,31 +28,24 @@ QUIET = 3600000  # milliseconds between khugepaged's rounds: it collapses nothin
 
 @dataclass(frozen=True)
 class Server:
-    """A node on this kernel: its control group, the process whose forks allocate in it, the group's struct
-    mem_cgroup."""
+    """A node on this kernel: its control group, the process whose forks allocate in it, the group's struct mem_cgroup (0:
+    kernel memory isn't read)."""
 
     path: str
     process: Mapper
-    group: int | None
-
-
-def allow_descriptors() -> None:
-    """Raises the limit of open files as far as it goes: each mapping process needs three."""
-    _, most = resource.getrlimit(resource.RLIMIT_NOFILE)
-    resource.setrlimit(resource.RLIMIT_NOFILE, (most, most))
+    group: int
 
 
 class Bench:
     """Made once; prepared for each script. `shrinker`: the file by which exactly so many pages are scanned, if that is asked."""
 
-    def __init__(self, keeper: Keeper, memory: KernelMemory | None, scans_exactly: bool = False) -> None:
-        allow_descriptors()
-        self._keeper = keeper
-        self.memory = memory
+    def __init__(self, keeper: Keeper, memory: KernelMemory | None, shrinker: ShrinkerFile | None) -> None:
+        _, most = resource.getrlimit(resource.RLIMIT_NOFILE)
+        resource.setrlimit(resource.RLIMIT_NOFILE, (most, most))  # each mapping process needs three
+        self._keeper, self.memory, self.shrinker = keeper, memory, shrinker
         keeper.set(COLLAPSE_SLEEP, QUIET)
         self.frames = Frames()
         self.groups = Groups(keeper, "thpreplay")
-        self.shrinker: ShrinkerFile | None = find_shrinker(self.groups.version) if scans_exactly else None
         self.mappers = Mappers(keeper)
         self.servers: list[Server] = []
         self._groups_made = 0
@@ -82,24 +76,22 @@ class Bench:
                 self._keeper.set(f"{size_folder(order)}/enabled", "madvise")
             elif order < PMD_ORDER:  # before Linux 6.8, PMD size has no settings of its own
                 raise Unsupported(f"this kernel has no pages of order {order}")
-        self._serve(options.nodes)
-
-    def _serve(self, nodes: int) -> None:
-        while len(self.servers) < nodes:
+        while len(self.servers) < options.nodes:
             path = self.groups.add(f"node{self._groups_made}")
             self._groups_made += 1
             process = self.mappers.root.fork()
             self._keeper.own_descriptor(process.pidfd)
             process.enter(path)
-            self.servers.append(Server(path, process, self.memory.group(path) if self.memory else None))
+            self.servers.append(Server(path, process, self.memory.group(path) if self.memory else 0))
 
     def queues(self, node: int) -> dict[int, list[int]] | None:
         """Returns the first frames of the pages in a node's queue, oldest first, by NUMA node where the kernel has a queue
         for each; None where queues aren't read."""
-        group, memory = self.servers[node].group, self.memory
-        if memory is None or group is None:
+        memory = self.memory
+        if memory is None:
             return None
-        return {each.numa_node: [memory.frame(folio) for folio in each.folios] for each in memory.queues(group)}
+        found = memory.queues(self.servers[node].group)
+        return {each.numa_node: [memory.frame(folio) for folio in each.folios] for each in found}
 
     def close(self) -> None:
         """Ends all processes."""
@@ -116,35 +108,23 @@ class Session:
     program: Program
     bench: Bench
 
-    @property
-    def reads_queues(self) -> bool:
-        return self.bench.memory is not None
-
-
-def find_comparable_parts(memory_wanted: bool) -> tuple[list[machine.Part], KernelMemory | None]:
-    """Returns what this machine can compare, and kernel memory where the queues can be read."""
-    parts = machine.common_parts()
-    if not memory_wanted:
-        return [*parts, machine.Part("kernel memory", False, "not wanted (--no-memory)")], None
-    memory, more = machine.memory()
-    return [*parts, *more], memory if all(part.here for part in more) else None
-
 
 @contextmanager
-def open_session(
-    name: str, program: str | None, memory_wanted: bool, wait: bool, scans_exactly: bool = False
-) -> Iterator[Session]:
-    """Opens a session of a tool. Unavailable where the machine lacks what it needs; Busy where another tool runs."""
-    parts, memory = find_comparable_parts(memory_wanted)
+def open_session(name: str, options: argparse.Namespace, scans_exactly: bool = False) -> Iterator[Session]:
+    """Opens a session of a tool with options (options.py: add_common). Unavailable where the machine lacks what it needs; Busy
+    where another tool runs."""
+    parts, memory = machine.common_parts(), None
+    if options.no_memory:
+        parts.append(machine.Part("kernel memory", False, "not wanted (--no-memory)"))
+    else:
+        memory, more = machine.memory()
+        memory = memory if all(part.here for part in more) else None
+        parts += more
     machine.demand(parts, NEEDED)
-    if scans_exactly:
-        find_shrinker(find_hierarchy().version)
-        if memory is None:
-            raise Unavailable("exact scans need queues, which are in kernel memory")
-    found = Program(program)
-    with Keeper(name, wait) as keeper:
-        bench = Bench(keeper, memory, scans_exactly)
-        try:
-            yield Session(parts, found, bench)
-        finally:
-            bench.close()
+    shrinker = ShrinkerFile(find_hierarchy().version) if scans_exactly else None
+    if shrinker and not memory:
+        raise Unavailable("exact scans need queues, which are in kernel memory")
+    program = Program(options.program)
+    with Keeper(name, options.wait) as keeper:
+        with closing(Bench(keeper, memory, shrinker)) as bench:
+            yield Session(parts, program, bench)

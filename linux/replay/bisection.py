@@ -8,7 +8,8 @@ which ends the bisection: words or files that can't be used.
 from __future__ import annotations
 
 import argparse
-from typing import NoReturn, Sequence
+from collections.abc import Sequence
+from typing import NoReturn
 
 from ..common.arguments import tool_parser
 from ..common.errors import InputFault, status_of
@@ -55,7 +56,7 @@ def bisect(given: Sequence[str] | None = None) -> int:
     except InputFault as fault:
         status_of(NAME, fault)
         return ENDED
-    with open_session(NAME, options.program, not options.no_memory, options.wait) as session:
+    with open_session(NAME, options) as session:
         if letter:
             finding = find_letter(letter, look_on(session))
             line, status = finding.line(), judge_finding(finding)

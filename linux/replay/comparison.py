@@ -12,9 +12,10 @@ from __future__ import annotations
 
 import re
 from collections import Counter as Tallies
-from typing import Sequence
+from collections.abc import Sequence
+from itertools import groupby
 
-from ..common.counters import Counter, SizeCounter
+from ..common.counters import Counter, Counts, SizeCounter
 from ..common.files import PMD_ORDER
 from ..common.subpages import set_text
 from .expected_answers import NEVER, ExpectedAnswer
@@ -52,10 +53,10 @@ def require_equal(what: str, kernel: object, model: object) -> None:
 
 
 class Comparison:
-    """Follows a script on all nodes. `known` gathers the known differences that it met, beginning with the run's;
-    `counters` holds the first difference of a counter. `small`: nodes whose pages aren't queued at their fault (C); at
-    their splits zero-filled subpages go back, as in the script. `scans_exactly`: a scan makes one pass over the pages that it
-    takes, the oldest."""
+    """Follows a script on all nodes. `known` gathers the known differences that it met, beginning with the run's; `counters`
+    holds the first difference of a counter. `small`: nodes whose pages aren't queued at their fault (C); at their splits
+    zero-filled subpages go back, as in the script. `scans_exactly`: a scan makes one pass over the pages that it takes, the
+    oldest. `command`: the one that is compared, None before all."""
 
     def __init__(
         self, states: Sequence[NodeState], known: set[KnownDifference], small: set[int], scans_exactly: bool = False
@@ -66,19 +67,31 @@ class Comparison:
         self._failed: dict[int, int] = Tallies()  # failed splits by order, as they should be
         self.known = set(known)
         self.counters: CounterDifference | None = None
-        self.sums: dict[str, int] = Tallies()
-        self._where, self._word, self._number = "", "", 0
+        self.sums: Tallies[str] = Tallies()
+        self.command: ExpectedAnswer | None = None
 
-    def update(self, expected: ExpectedAnswer, observed: Observation) -> None:
+    @property
+    def where(self) -> str:
+        """The command that is compared, as reports name it."""
+        return f"command {self.command.place}: {' '.join(self.command.words)}" if self.command else "before all"
+
+    def placed(self, difference: Difference) -> Difference:
+        """Returns a difference with its place, and with the difference of a counter before it."""
+        earlier = f"; before it {self.counters}" if self.counters else ""
+        word, place = (self.command.words[0], self.command.place) if self.command else ("", 0)
+        kind = kind_of(difference.kind or str(difference), word)
+        return Difference(f"{difference} ({self.where}){earlier}", kind, place)
+
+    def _update(self, expected: ExpectedAnswer, observed: Observation) -> None:
         """Computes the kernel's queue and failed splits. The node's state is that after the command."""
         for (node, page), numa_node in observed.numa_nodes.items():
             self._numa_nodes[node][page] = numa_node
         state, queue = self._states[expected.node], self._queues[expected.node]
         if expected.words[0] == "scan" and not expected.is_refused:
             self._scan(expected, state, observed)
-            return
-        stays = [page for page in queue if page in state.queue]
-        self._queues[expected.node] = stays + [page for page in state.queue if page not in stays]
+        else:
+            stays = [page for page in queue if page in state.queue]
+            self._queues[expected.node] = stays + [page for page in state.queue if page not in stays]
 
     def _scan(self, expected: ExpectedAnswer, state: NodeState, observed: Observation) -> None:
         pinned = sum(event.word == "pinned" for event in expected.events)
@@ -119,12 +132,12 @@ class Comparison:
             if can_fail(failed - once, [(len(pages), turned[numa_node]) for numa_node, pages in lists.items()]):
                 self._failed[order] = total
             else:
-                each = ", ".join(f"{len(pages)} for each pass of NUMA node {numa_node}" for numa_node, pages in lists.items())
+                each = ", ".join(f"{len(pages)} for each pass of NUMA node {number}" for number, pages in lists.items())
                 self._counter_differs("split_failed of a scan", failed, f"{once} + {each}")
             if failed > once + len(queue):
                 self.known.add(KnownDifference.F)
         self.sums["scans of several NUMA nodes with pinned pages"] += 1
-        return join_lists({numa_node: pages if turned[numa_node] is False else pages[::-1] for numa_node, pages in lists.items()})
+        return join_lists({number: pages if turned[number] is False else pages[::-1] for number, pages in lists.items()})
 
     @staticmethod
     def _failed_total(order: int, observed: Observation) -> int | None:
@@ -161,37 +174,35 @@ class Comparison:
         return passes
 
     def _counter_differs(self, what: str, kernel: object, model: object) -> None:
-        """Keeps the first difference of a counter; no other is compared afterwards."""
-        if not self.counters and kernel != model:
-            text = f"{what}, kernel {kernel}, thpsplit {model}"
-            kind = kind_of(what, self._word)
-            self.counters = CounterDifference(f"{text} ({self._where})", f"{what} {self._where}", kind, self._number)
-
-    def set_place(self, where: str, word: str = "", number: int = 0) -> None:
-        """Names the command that is compared next."""
-        self._where, self._word, self._number = where, word, number
+        """Keeps the first difference of a counter that the kernel has; no other is compared afterwards."""
+        if not self.counters and kernel is not None and kernel != model:
+            found = self.placed(Difference(f"{what}, kernel {kernel}, thpsplit {model}", what))
+            self.counters = CounterDifference(str(found), f"{what} {self.where}", found.kind, found.command)
 
     def compare(self, observed: Observation) -> None:
         """Raises Difference where the script's own state differs. A counter that differs is kept in `counters`."""
-        self._compare_machine(observed)
-        for order in sorted({state.order for state in self._states}):
-            self._compare_size(order, observed)
+        if self.command:
+            self._update(self.command, observed)
+        self._note_known()
+        self._compare_counters(observed.counts)
         for node, state in enumerate(self._states):
             for number, page in enumerate(state.pages):
                 if page.live:
-                    self._compare_page(node, f"page {number} of node {node}", page, observed.pages[node, number])
+                    self._compare_page(node, number, page, observed.pages[node, number])
             self._compare_queue(node, state, observed.queues[node])
 
     def _sum(self, name: str, order: int | None = None) -> int:
         return sum(getattr(state.event_counts, name) for state in self._states if order in (None, state.order))
 
-    def _deferred(self, kernel: int | None) -> int:
-        """Returns how many pages of PMD size the kernel should have counted as deferred (A, G)."""
-        least = self._sum("first_partly", PMD_ORDER) + self._sum("partly_by_split", PMD_ORDER)
-        return min(max(least, kernel or 0), least + self._sum("perhaps_partly", PMD_ORDER))
+    def _deferred(self, order: int, shown: int | None) -> int:
+        """Returns how many pages the kernel should have counted as deferred (A, G)."""
+        least = self._sum("first_partly", order)
+        if order < PMD_ORDER:
+            return least
+        least += self._sum("partly_by_split", order)
+        return min(max(least, shown or 0), least + self._sum("perhaps_partly", order))
 
-    def _compare_machine(self, observed: Observation) -> None:
-        machine = observed.counts.machine
+    def _note_known(self) -> None:
         if self._sum("queued", PMD_ORDER) != self._sum("first_partly", PMD_ORDER):
             self.known.add(KnownDifference.A)
         if self._sum("partly_by_split") + self._sum("perhaps_partly"):
@@ -200,48 +211,37 @@ class Comparison:
             tally = state.event_counts
             if state.order < PMD_ORDER and (tally.split or tally.failed or tally.queued or tally.split_pmd):
                 self.known.add(KnownDifference.W)
-        model = {
+
+    def _compare_counters(self, counts: Counts) -> None:
+        machine = {
             Counter.SPLIT: self._sum("split", PMD_ORDER),
-            Counter.DEFERRED: self._deferred(machine[Counter.DEFERRED]),
+            Counter.DEFERRED: self._deferred(PMD_ORDER, counts.machine[Counter.DEFERRED]),
             Counter.SPLIT_PMD: self._sum("split_pmd", PMD_ORDER),
             Counter.UNDERUSED: self._sum("underused"),
             Counter.SPLIT_FAILED: self._failed[PMD_ORDER],
         }
-        for counter, value in model.items():
-            if machine[counter] is not None:
-                self._counter_differs(counter.value, machine[counter], value)
+        for counter, value in machine.items():
+            self._counter_differs(counter.value, counts.machine[counter], value)
+        for order in sorted({state.order for state in self._states}):
+            sizes = {
+                SizeCounter.SPLIT: self._sum("split", order),
+                SizeCounter.DEFERRED: self._deferred(order, counts.sizes[SizeCounter.DEFERRED, order]),
+                SizeCounter.SPLIT_FAILED: self._failed[order],
+            }
+            for key, value in sizes.items():
+                self._counter_differs(f"{key.value} of order {order}", counts.sizes[key, order], value)
 
-    def _compare_size(self, order: int, observed: Observation) -> None:
-        sizes = observed.counts.sizes
-        deferred = self._sum("first_partly", order)
-        if order == PMD_ORDER:
-            deferred = self._deferred(sizes[SizeCounter.DEFERRED, order])
-        model = {
-            SizeCounter.SPLIT: self._sum("split", order),
-            SizeCounter.DEFERRED: deferred,
-            SizeCounter.SPLIT_FAILED: self._failed[order],
-        }
-        for counter, value in model.items():
-            if sizes[counter, order] is not None:
-                self._counter_differs(f"{counter.value} of order {order}", sizes[counter, order], value)
-
-    def _compare_page(self, node: int, name: str, page: PageState, observed: PageObservation) -> None:
-        totals = page.totals()
-        if not page.split:
-            require_equal(f"frames of {name}", observed.whole, page.subpages)
-            self._compare_counts(name, observed.counts, totals, page.every)
-            return
-        held = page.held & ~page.dropped_zero
-        if held != page.held:
-            self.known.add(KnownDifference.C if node in self._small else KnownDifference.B)
-        require_equal(f"frames of {name}", set_text(observed.mapped), set_text(held))
-        self._compare_counts(name, observed.counts, totals, observed.mapped)
-
-    def _compare_counts(self, name: str, kernel: Sequence[int], model: Sequence[int], of: int) -> None:
-        if tuple(kernel) == tuple(model):
-            return
-        for i, (count, wanted) in enumerate(zip(kernel, model)):
-            if of >> i & 1:
+    def _compare_page(self, node: int, number: int, page: PageState, observed: PageObservation) -> None:
+        name, compared = f"page {number} of node {node}", page.every
+        if page.split:
+            held, compared = page.held & ~page.dropped_zero, observed.mapped
+            if held != page.held:
+                self.known.add(KnownDifference.C if node in self._small else KnownDifference.B)
+            require_equal(f"frames of {name}", set_text(observed.mapped), set_text(held))
+        else:
+            require_equal(f"frames of {name}", observed.whole, len(page.own))
+        for i, (count, wanted) in enumerate(zip(observed.counts, page.totals())):
+            if count != wanted and compared >> i & 1:
                 require_equal(f"map count of {name}, subpage {i}", count, wanted)
 
     def _compare_queue(self, node: int, state: NodeState, queue: list[int] | None) -> None:
@@ -260,15 +260,16 @@ class Comparison:
 
 def lists_of(queue: Sequence[int], numa_nodes: dict[int, int]) -> Lists:
     """Returns the pages of a queue by NUMA node, in their order; a page whose node isn't known is on node 0."""
-    out: Lists = {}
-    for page in queue:
-        out.setdefault(numa_nodes.get(page, 0), []).append(page)
-    return {numa_node: out[numa_node] for numa_node in sorted(out)}
+
+    def node_of(page: int) -> int:
+        return numa_nodes.get(page, 0)
+
+    return {numa_node: [*pages] for numa_node, pages in groupby(sorted(queue, key=node_of), node_of)}
 
 
 def join_lists(lists: Lists) -> list[int]:
     """Returns the lists in the order of their NUMA nodes as one."""
-    return [page for numa_node in sorted(lists) for page in lists[numa_node]]
+    return [page for pages in lists.values() for page in pages]
 
 
 def can_fail(failed: int, lists: Sequence[tuple[int, bool | None]]) -> bool:

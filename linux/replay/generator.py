@@ -3,11 +3,13 @@
 from __future__ import annotations
 
 import random
+from collections.abc import Callable, Iterator, Sequence
 from dataclasses import dataclass, field
-from typing import Callable, Iterator, Sequence
+from functools import reduce
+from operator import or_
 
 from ..common.files import PMD_ORDER
-from ..common.script import Options, Script, script_of
+from ..common.script import MARK, Options, Script
 from ..common.subpages import bits_of, runs
 
 MOST_PAGES = 12  # live pages of a node, 2 MiB each
@@ -43,6 +45,17 @@ class Sketch:
     def mapped(self) -> bool:
         return bool(self.whole or self.parts)
 
+    def divide(self) -> None:
+        """Turns a PMD mapping, if there is one, into PTE mappings."""
+        if self.whole:
+            self.whole -= 1
+            self.parts.append(self.every)
+
+    def drop(self, part: int, bits: int) -> None:
+        """Drops PTE mappings."""
+        self.parts[part] &= ~bits
+        self.parts = [each for each in self.parts if each]
+
 
 class Generator:
     """One script."""
@@ -68,6 +81,7 @@ class Generator:
         ]
 
     def script(self, name: str) -> Script:
+        """Returns the script."""
         weights, kinds = zip(*self._kinds)
         for _ in range(self._length):
             self._node = self._chance.randrange(self._nodes)
@@ -83,13 +97,8 @@ class Generator:
             self._chance.choices(kinds, weights)[0](page)
             if not page.mapped and not page.pins:
                 pages[self._number] = None
-        return self._finished(name)
-
-    def _finished(self, name: str) -> Script:
-        switches = (self._threshold,) * self._nodes
-        options = Options(self._nodes, 16, 1, tuple(self._orders), switches)
-        text = "\n".join([f"# thpsplit {' '.join(options.words())}", "setup", *self._lines])
-        return script_of(name, text + "\n")
+        options = Options(self._nodes, 16, 1, tuple(self._orders), (self._threshold,) * self._nodes)
+        return Script(name, "\n".join([f"{MARK}{' '.join(options.words())}", "setup", *self._lines, ""]), options)
 
     def _add(self, word: str, *operands: int, page: bool = True) -> None:
         self._lines.append(" ".join(map(str, [word, self._node, *([self._number] if page else []), *operands])))
@@ -112,8 +121,7 @@ class Generator:
 
     def _splitpmd(self, page: Sketch) -> None:
         if page.whole:
-            page.whole -= 1
-            page.parts.append(page.every)
+            page.divide()
             self._add("splitpmd")
 
     def _unmapwhole(self, page: Sketch) -> None:
@@ -130,8 +138,7 @@ class Generator:
         if page.parts:
             part = self._chance.randrange(len(page.parts))
             first, count = self._range(*self._chance.choice(list(runs(page.parts[part]))))
-            page.parts[part] &= ~bits_of(first, count)
-            page.parts = [bits for bits in page.parts if bits]
+            page.drop(part, bits_of(first, count))
             self._add("unmap", first, count)
 
     def _map(self, page: Sketch) -> None:
@@ -163,10 +170,7 @@ class Generator:
         """Drops the PMD mappings of the pages that a scan may split; the sketch needs no more detail."""
         for page in self._pages[self._node]:
             if page and not page.pins and not page.whole:
-                union = 0
-                for bits in page.parts:
-                    union |= bits
-                page.split = page.split or union != page.every
+                page.split |= reduce(or_, page.parts, 0) != page.every
 
     def _scan(self, _page: Sketch) -> None:
         self._add("scan", self._chance.choice(self._scans), page=False)
@@ -187,20 +191,16 @@ class Generator:
             page.pins -= bool(page.pins)
         elif kind == 1:
             self._add("splitpmd")
-            if page.whole:
-                page.whole -= 1
-                page.parts.append(page.every)
+            page.divide()
         elif kind == 2:
             self._add("unmap", 0, page.subpages + 1)
         elif kind == 3:
             self._lines.append(f"unmap {self._node} {len(self._pages[self._node])} 0 1")
         else:
             self._add("unmap", 0, 1)
-            for part, bits in enumerate(page.parts):
-                if bits & 1:
-                    page.parts[part] &= ~1
-                    break
-            page.parts = [bits for bits in page.parts if bits]
+            part = next((part for part, bits in enumerate(page.parts) if bits & 1), None)
+            if part is not None:
+                page.drop(part, 1)
 
 
 def scripts(count: int, seed: int, shape: Shape) -> Iterator[Script]:

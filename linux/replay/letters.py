@@ -12,12 +12,11 @@ difference shows. What is looked at is one of
 
 from __future__ import annotations
 
-import dataclasses
 import enum
 import re
-from dataclasses import dataclass
+from collections.abc import Callable, Sequence
+from dataclasses import dataclass, replace
 from pathlib import Path
-from typing import Callable, Sequence
 
 from ..common import machine
 from ..common.counters import Counter, SizeCounter
@@ -27,16 +26,13 @@ from ..common.script import Script, read_script
 from ..common.subpages import set_text
 from ..common.text import escape, text_lines
 from .bench import Session
-from .expected_answers import ExpectedRun
-from .pages import KernelPages
 from .runner import Result, RunComparer, Runner
-from .states import NodeState, Observation
+from .states import Observation
 
 FOLDER = Path(__file__).resolve().parent.parent / "letters"
 ONLY_RECORDINGS = "KMURZL"  # collapses, migrations and other tasks: no script has them (docs/LINUX.md)
 MOST_RUNS = 6  # of a letter's script, until two of them show the same
 
-_COMMENT = re.compile(r"# (look|model|letter): (.*)")
 _SIZE = re.compile(r"(split|split_failed|split_deferred) of order ([2-9])")
 _FRAMES = re.compile(r"frames ([0-7]) ([0-9]{1,2})")
 _QUEUE = re.compile(r"queue ([0-7]) after odd passes")
@@ -93,30 +89,28 @@ class LetterScript:
         return Finding(self.letter, Match.NEITHER, f"{self.look} {seen or 'empty'}")
 
 
-def read_letter(letter: str, folder: Path = FOLDER) -> LetterScript:
+def read_letter(letter: str) -> LetterScript:
     """Reads a letter's script. InputFault where there is none, or its comments are missing."""
     if not re.fullmatch("[A-Z]", letter):
         raise InputFault(f"{escape(letter)[:40]} is no letter of a known difference")
     if letter in ONLY_RECORDINGS:
         raise InputFault(f"{letter}: only recordings meet it")
-    path = folder / f"{letter}.script"
+    path = FOLDER / f"{letter}.script"
     script = read_script(str(path))
-    found = [_COMMENT.fullmatch(line) for line in text_lines(script.text)]
-    comments: dict[str, str] = {each[1]: each[2] for each in found if each}
-    if set(comments) != {"look", "model", "letter"}:
+    comments = dict(re.findall("^# (look|model|letter): (.*)$", script.text, re.MULTILINE))
+    if len(comments) != 3:
         raise InputFault(f"{path} needs the comments look, model and letter")
     return LetterScript(letter, script, comments["look"], comments["model"], comments["letter"])
 
 
-def letters(folder: Path = FOLDER) -> list[str]:
+def letters() -> list[str]:
     """Returns the letters that have a script."""
-    return sorted(path.stem for path in folder.glob("[A-Z].script"))
+    return sorted(path.stem for path in FOLDER.glob("[A-Z].script"))
 
 
 def read_look(look: str, observed: Observation) -> str:
     """Returns what a look shows. Unavailable where this kernel doesn't show it."""
     size, frames, queue = _SIZE.fullmatch(look), _FRAMES.fullmatch(look), _QUEUE.fullmatch(look)
-    value: int | None = None
     if size:
         value = observed.counts.sizes.get((SizeCounter(size[1]), int(size[2])))
     elif frames:
@@ -144,37 +138,21 @@ def _read_queue(queue: list[int] | None, observed: Observation) -> str:
     return " ".join(map(str, queue))
 
 
-class LastLook(RunComparer):
-    """Runs commands without a comparison, and keeps the last look."""
-
-    last: Observation | None = None
-
-    def compare_run(self, expected_run: ExpectedRun, zero_filled: bool, kernel: KernelPages) -> str:
-        """Returns no letters."""
-        options = expected_run.options
-        states = [NodeState(order, switch, zero_filled) for order, switch in zip(options.orders, options.underused)]
-        for expected in expected_run.answers:
-            self.run_command(expected, states, kernel)
-        self.last = kernel.look(states)
-        return ""
-
-
 Look = Callable[[Script], Observation]
 """Runs a script, and returns what the kernel shows after it. Unavailable where the kernel can't run it."""
 
 
 def look_on(session: Session) -> Look:
     """Returns the look at the kernel of a session."""
-    comparer = LastLook()
-    runner = Runner(session.bench, session.program, comparer)
+    looks: list[Observation] = []
+    runner = Runner(session.bench, session.program, RunComparer(looks=looks, compares=False))
 
     def look(script: Script) -> Observation:
-        comparer.last = None
         session.bench.renew()
         outcome = runner.run(script)
-        if comparer.last is None or outcome.result is not Result.AGREES:
+        if outcome.result is not Result.AGREES:
             raise Unavailable(outcome.text or "the script was not run")
-        return comparer.last
+        return looks[-1]
 
     return look
 
@@ -188,7 +166,8 @@ def find_letter(letter: LetterScript, look: Look) -> Finding:
             try:
                 seen.append(read_look(letter.look, look(script)))
             except EvenPasses as error:
-                script, reason = with_last_again(script), str(error)
+                script = replace(script, text=f"{script.text}{text_lines(script.text)[-1]}\n")
+                reason = str(error)
                 continue
             if seen[-2:-1] == seen[-1:]:
                 return letter.match(seen[-1])
@@ -197,18 +176,12 @@ def find_letter(letter: LetterScript, look: Look) -> Finding:
     return Finding(letter.letter, Match.UNSEEN, reason)
 
 
-def with_last_again(script: Script) -> Script:
-    """Returns a script with its last command once more."""
-    return dataclasses.replace(script, text=script.text + text_lines(script.text)[-1] + "\n")
-
-
-def find_all(look: Look, folder: Path = FOLDER) -> list[Finding]:
+def find_all(look: Look) -> list[Finding]:
     """Returns how a kernel does each letter, those of recordings last."""
-    found = [find_letter(read_letter(letter, folder), look) for letter in letters(folder)]
+    found = [find_letter(read_letter(letter), look) for letter in letters()]
     return [*found, *(Finding(letter, Match.UNSEEN, "only recordings meet it") for letter in ONLY_RECORDINGS)]
 
 
 def markdown(findings: Sequence[Finding], version: str) -> list[str]:
     """Returns the column of a kernel as a table."""
-    rows: list[tuple[str, str]] = [("Letter", version), ("-", "-"), *((each.letter, each.cell()) for each in findings)]
-    return [f"|{letter}|{cell}|" for letter, cell in rows]
+    return [f"|Letter|{version}|", "|-|-|", *(f"|{each.letter}|{each.cell()}|" for each in findings)]

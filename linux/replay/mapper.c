@@ -93,12 +93,6 @@ static int receive(struct command *command, int *carried)
     return got == sizeof *command && !(message.msg_flags & (MSG_TRUNC | MSG_CTRUNC));
 }
 
-/* The result of a system call, as a reply has it. */
-static long result(long number)
-{
-    return number < 0 ? -errno : number;
-}
-
 /* Whether a range of subpages is inside the page. */
 static int is_inside(int first, int count)
 {
@@ -129,7 +123,7 @@ static long unmap(int first, int count)
 {
     if (!is_inside(first, count))
         return -EINVAL;
-    return result(madvise(page + (size_t)first * BASE, (size_t)count * BASE, MADV_DONTNEED));
+    return madvise(page + (size_t)first * BASE, (size_t)count * BASE, MADV_DONTNEED) ? -errno : 0;
 }
 
 static long split_pmd(void)
@@ -137,7 +131,7 @@ static long split_pmd(void)
     size_t half = (size_t)subpages * BASE / 2;
     if (!page)
         return -EINVAL;
-    return result(madvise(page, half, MADV_DONTDUMP) || madvise(page, half, MADV_DODUMP) ? -1 : 0);
+    return madvise(page, half, MADV_DONTDUMP) || madvise(page, half, MADV_DODUMP) ? -errno : 0;
 }
 
 static long fill(int first, int count, int byte)
@@ -158,14 +152,14 @@ static long pin(int first)
     if (pipe2(ends, O_CLOEXEC))
         return -errno;
     struct iovec one = { page + (size_t)first * BASE, 1 };
-    long spliced = result(vmsplice(ends[1], &one, 1, 0));
+    ssize_t spliced = vmsplice(ends[1], &one, 1, 0);
+    long failed = spliced < 0 ? -errno : spliced == 1 ? 0 : -EIO;
     close(ends[1]);
-    if (spliced != 1) {
+    if (failed)
         close(ends[0]);
-        return spliced < 0 ? spliced : -EIO;
-    }
-    pins[pin_count++] = ends[0];
-    return 0;
+    else
+        pins[pin_count++] = ends[0];
+    return failed;
 }
 
 /* Reading the pipe's only byte drops its reference. */
@@ -174,9 +168,9 @@ static long unpin(void)
     char byte;
     if (pin_count == 0)
         return -ENOENT;
-    long got = result(read(pins[--pin_count], &byte, 1));
+    long failed = read(pins[--pin_count], &byte, 1) < 0 ? -errno : 0;
     close(pins[pin_count]);
-    return got < 0 ? got : 0;
+    return failed;
 }
 
 static void drop_pins(void)
@@ -191,14 +185,14 @@ static void fork_child(int socket)
 {
     int pidfd = -1;
     struct clone_args how = { .flags = CLONE_PIDFD, .pidfd = (uintptr_t)&pidfd, .exit_signal = SIGCHLD };
-    long child = result(syscall(SYS_clone3, &how, sizeof how));
+    long child = syscall(SYS_clone3, &how, sizeof how);
     if (child == 0) {
         if (dup2(socket, LINE) != LINE)
             _exit(1);
         drop_pins();
         return;
     }
-    reply(child < 0 ? child : 0, pidfd);
+    reply(child < 0 ? -errno : 0, pidfd);
     if (pidfd >= 0)
         close(pidfd);
 }
@@ -212,12 +206,6 @@ static void end(void)
     exit(0);
 }
 
-/* Enters a control group: a number of 0 is the writer's own. The kernel checks the rights of who opened the file. */
-static long enter(int group)
-{
-    return write(group, "0", 1) == 1 ? 0 : -errno;
-}
-
 /* The result of a command, which carries a descriptor or -1. */
 static long run(const struct command *command, int carried)
 {
@@ -225,8 +213,8 @@ static long run(const struct command *command, int carried)
     if ((carried >= 0) != (command->word == ENTER))
         return -EINVAL;
     switch (command->word) {
-    case ENTER:
-        return enter(carried);
+    case ENTER: /* 0 is the writer's own number; the kernel checks the rights of who opened the file */
+        return write(carried, "0", 1) == 1 ? 0 : -errno;
     case ALLOC:
         return alloc_page(operands[0], operands[1]);
     case UNMAP:
@@ -245,18 +233,6 @@ static long run(const struct command *command, int carried)
     return -EINVAL;
 }
 
-static void serve(void)
-{
-    struct command command;
-    int carried, is_command = receive(&command, &carried);
-    if (is_command && command.word == FORK && carried >= 0)
-        fork_child(carried);
-    else
-        reply(is_command ? run(&command, carried) : -EINVAL, -1);
-    if (carried >= 0)
-        close(carried);
-}
-
 /* Drops every capability for good. */
 static int drop_rights(void)
 {
@@ -273,6 +249,14 @@ int main(void)
         return 2;
     signal(SIGCHLD, SIG_IGN); /* children are reaped by the kernel */
     signal(SIGINT, SIG_IGN);  /* the tool ends its mappers itself */
-    for (;;)
-        serve();
+    for (;;) {
+        struct command command;
+        int carried, is_command = receive(&command, &carried);
+        if (is_command && command.word == FORK && carried >= 0)
+            fork_child(carried);
+        else
+            reply(is_command ? run(&command, carried) : -EINVAL, -1);
+        if (carried >= 0)
+            close(carried);
+    }
 }

@@ -44,14 +44,13 @@ class Mapper:
     """One process, and what it maps: `whole` by a PMD entry (or as one piece, below PMD size), `mapped` by subpages;
     `at` is the address of subpage 0. After the first failure nothing more can be asked of it."""
 
-    def __init__(self, end: socket.socket, pidfd: int = -1, like: Mapper | None = None) -> None:
+    whole, mapped, at, pins = False, 0, 0, 0
+
+    def __init__(self, end: socket.socket, pidfd: int = -1) -> None:
         self._end: socket.socket | None = end
         end.settimeout(PATIENCE)
-        self.pidfd, self.pins = pidfd, 0
+        self.pidfd = pidfd
         self._pagemap: NumberFile | None = None
-        self.whole: bool = like.whole if like else False
-        self.mapped: int = like.mapped if like else 0
-        self.at: int = like.at if like else 0
 
     def request(self, word: str, *operands: int, passed: int | None = None) -> int:
         """Sends a command, with a descriptor or none, and returns the number of the reply; of `fork`, the descriptor that it
@@ -94,7 +93,9 @@ class Mapper:
             raise Refusal(f"fork: {error.strerror}") from error
         try:
             with its:
-                return Mapper(mine, self.request("fork", passed=its.fileno()), self)
+                child = Mapper(mine, self.request("fork", passed=its.fileno()))
+            child.whole, child.mapped, child.at = self.whole, self.mapped, self.at
+            return child
         except BaseException:
             mine.close()
             raise
@@ -107,22 +108,15 @@ class Mapper:
 
     def frames(self, count: int) -> list[int | None]:
         """Returns the frame that each of its subpages has, or None where it maps none."""
-        if self._pagemap is None:
-            self._pagemap = self._open_pagemap()
         try:
+            if self._pagemap is None:
+                self._pagemap = NumberFile(f"/proc/{process_of(self.pidfd)}/pagemap")
+                if has_ended(self.pidfd):
+                    self.close()  # its number may be another process's
+                    raise RunFailed("a mapping process has ended")
             return [frame_of_entry(entry) for entry in self._pagemap.at(self.at // BASE, count)]
-        except OSError as error:
-            raise RunFailed("a mapping process has ended") from error
-
-    def _open_pagemap(self) -> NumberFile:
-        try:
-            pagemap = NumberFile(f"/proc/{process_of(self.pidfd)}/pagemap")
-        except Unavailable as error:
-            raise RunFailed(str(error)) from error
-        if has_ended(self.pidfd):
-            pagemap.close()
-            raise RunFailed("a mapping process has ended")
-        return pagemap
+        except (Unavailable, OSError) as error:
+            raise RunFailed(f"a mapping process has ended: {error}") from error
 
     def exit(self) -> None:
         """Has the process drop its mappings and end. One that failed before ends without a reply."""

@@ -12,10 +12,9 @@ kselftest: 0 pass, 1 fail or error, 4 skip. With --fingerprint 1: this kernel do
 from __future__ import annotations
 
 import argparse
-from dataclasses import dataclass
+from collections.abc import Iterator, Sequence
 from functools import lru_cache
 from itertools import chain
-from typing import Iterator, Sequence
 
 from ..common.arguments import OneLineParser, seconds, tool_parser, whole, wholes
 from ..common.errors import InputFault
@@ -31,6 +30,7 @@ MOST_SCRIPTS = 10 ** 9
 MOST_SEED = 10 ** 18 - 1
 MOST_SEEDS = 1 << 18  # bytes of a fixed set
 MOST_SHRINKING = 3600.0  # seconds
+SETTINGS = ("nodes", "orders", "underused", "blocks")  # of scripts that are files
 
 
 def add_shape(parser: argparse.ArgumentParser) -> None:
@@ -58,7 +58,7 @@ def parse_words(given: Sequence[str] | None = None) -> argparse.Namespace:
     add_common(parser)
     parser.add_argument("script", nargs="*",
                         help="scripts (-: standard input); their settings are in the first line or in SCRIPT.args")
-    for name in ("nodes", "orders", "underused", "blocks"):
+    for name in SETTINGS:
         parser.add_argument(f"--{name}", help="as for thpsplit, for scripts that are files")
     parser.add_argument("--random", type=whole(0, MOST_SCRIPTS), default=0, metavar="COUNT",
                         help="run COUNT random scripts")
@@ -93,23 +93,15 @@ def parse_shape(options: argparse.Namespace) -> Shape:
                  getattr(options, "exact_scans", False))
 
 
-@dataclass(frozen=True)
-class FoundScripts:
-    """How many scripts a command line names, and the scripts, made one by one."""
-
-    count: int
-    scripts: Iterator[Script]
-
-
-def list_scripts(options: argparse.Namespace) -> FoundScripts:
-    """Returns the files' scripts, all of them read, those of the seeds, then the random ones."""
-    given = [f"--{name}={getattr(options, name)}" for name in ("nodes", "orders", "underused", "blocks")
-             if getattr(options, name) is not None]
+def list_scripts(options: argparse.Namespace) -> tuple[int, Iterator[Script]]:
+    """Returns how many scripts a command line names, and the scripts, made one by one: the files', all of them read, those of
+    the seeds, then the random ones."""
+    given = [f"--{name}={getattr(options, name)}" for name in SETTINGS if getattr(options, name) is not None]
     named = [read_script(path, given) for path in options.script]
     fixed = read_seeds(options.seeds) if options.seeds else []
     of_seeds = (script for seed, shape in fixed for script in scripts(1, seed, shape))
-    return FoundScripts(len(named) + len(fixed) + options.random,
-                        chain(named, of_seeds, scripts(options.random, options.seed, parse_shape(options))))
+    drawn = scripts(options.random, options.seed, parse_shape(options))
+    return len(named) + len(fixed) + options.random, chain(named, of_seeds, drawn)
 
 
 def read_seeds(path: str) -> list[tuple[int, Shape]]:

@@ -13,8 +13,8 @@
 from __future__ import annotations
 
 import os
+from collections.abc import Callable, Sequence
 from dataclasses import dataclass
-from typing import Sequence
 
 from ..common.counters import Counter, Counts, counts
 from ..common.errors import RunFailed
@@ -44,44 +44,36 @@ class KernelPage:
     def subpages(self) -> int:
         return 1 << self.order
 
-    def find_by_pmd(self) -> Mapper | None:
-        """Returns a process that maps it whole."""
-        return next((mapper for mapper in self.mappers if mapper.whole), None)
-
-    def find_covering(self, bits: int, whole: bool = True) -> Mapper | None:
-        """Returns a process that maps all these subpages: by entries of their own if one does, by a PMD entry only if
-        `whole`."""
-        found = [mapper for mapper in self.mappers if mapper.mapped & bits == bits and (whole or not mapper.whole)]
-        return next((mapper for mapper in found if not mapper.whole), found[0] if found else None)
+    def mapper(self, fits: Callable[[Mapper], object], reason: str) -> Mapper:
+        """Returns the first process that fits. Unsupported, with the reason, where there is none."""
+        for mapper in self.mappers:
+            if fits(mapper):
+                return mapper
+        raise Unsupported(reason)
 
     def pieces(self, bits: int, whole: bool) -> list[tuple[Mapper, int, int]]:
-        """Processes with a first and a count that cover these subpages together; none where nobody maps one of them."""
-        alone = self.find_covering(bits, whole)
-        if alone and bits:
-            return [(alone, *next(runs(bits)))]
+        """Processes with a first and a count that cover these subpages together, by entries of their own where some do, by a PMD
+        entry only if `whole`; none where nobody maps one of the subpages."""
+        found = [mapper for mapper in sorted(self.mappers, key=lambda mapper: mapper.whole) if whole or not mapper.whole]
         out = []
         while bits:
             low = (bits & -bits).bit_length() - 1
-            best: Mapper | None = None
-            most = 0
-            for mapper in sorted(self.mappers, key=lambda mapper: mapper.whole):
-                first, count = next(runs(mapper.mapped >> low & bits >> low), (1, 0))
-                if (whole or not mapper.whole) and first == 0 and count > most:
-                    best, most = mapper, count
-            if best is None:
+            firsts = [next(runs(mapper.mapped >> low & bits >> low), (1, 0)) for mapper in found]
+            most = max((count for first, count in firsts if first == 0), default=0)
+            if not most:
                 return []
-            out.append((best, low, most))
+            out.append((found[firsts.index((0, most))], low, most))
             bits &= ~bits_of(low, most)
         return out
 
 
 class KernelPages:
-    """One script's pages on a bench. `fill`: the byte that new pages are filled with; 0: they stay zero-filled. `drops_zeros`: this
-    kernel gives mapped zero-filled subpages back at any split (B). `scans_exactly`: a scan takes so many pages as it specifies,
-    in one pass."""
+    """One script's pages on a bench. `fill`: the byte that new pages are filled with; 0: they stay zero-filled. `drops_zeros`:
+    this kernel gives mapped zero-filled subpages back at any split (B). `scans_exactly`: a scan takes so many pages as it
+    specifies, in one pass."""
 
     def __init__(self, bench: Bench, options: Options, fill: int) -> None:
-        self._bench, self._options, self._fill = bench, options, fill
+        self._bench, self._fill = bench, fill
         self.drops_zeros = os.path.exists(SWITCH)  # both came with Linux 6.12
         self.scans_exactly = bench.shrinker is not None
         self._pages: list[list[KernelPage]] = [[] for _ in range(options.nodes)]
@@ -119,24 +111,19 @@ class KernelPages:
         since = counts(self._orders).since(self._before)
         splits = since.machine[Counter.SPLIT_PMD]
         machine = {**since.machine, Counter.SPLIT_PMD: None if splits is None else splits - self._own_splits}
-        pages: dict[PageName, PageObservation] = {}
-        for node, state in enumerate(states):
-            for number, page in enumerate(state.pages):
-                if page.live:
-                    pages[node, number] = self._look_at(self._pages[node][number], page)
+        pages = {(node, number): self._look_at(self._pages[node][number], page.split)
+                 for node, state in enumerate(states) for number, page in enumerate(state.pages) if page.live}
         numa_nodes: dict[PageName, int] = {}
         queues = [self._queue(node, state, numa_nodes) for node, state in enumerate(states)]
         return Observation(Counts(machine, since.sizes), pages, queues, numa_nodes)
 
-    def _look_at(self, held: KernelPage, page: PageState) -> PageObservation:
-        frames = self._bench.frames
-        mapped = 0
-        if page.split:
-            for mapper in held.mappers:
-                if mapper.mapped:
-                    for i, frame in enumerate(mapper.frames(held.subpages)):
-                        mapped |= (frame == held.frame + i) << i
-        whole = 0 if page.split else frames.whole(held.frame, held.subpages)
+    def _look_at(self, held: KernelPage, is_split: bool) -> PageObservation:
+        frames, mapped = self._bench.frames, 0
+        for mapper in held.mappers:
+            if is_split and mapper.mapped:
+                for i, frame in enumerate(mapper.frames(held.subpages)):
+                    mapped |= (frame == held.frame + i) << i
+        whole = 0 if is_split else frames.whole(held.frame, held.subpages)
         return PageObservation(whole, frames.counts(held.frame, held.subpages), mapped)
 
     def _queue(self, node: int, state: NodeState, numa_nodes: dict[PageName, int]) -> list[int] | None:
@@ -158,11 +145,10 @@ class KernelPages:
         mapper = self._fork(self._bench.servers[node].process)
         mapper.alloc(state.order, self._fill)
         frames = mapper.frames(1 << state.order)
-        first = frames[0]
-        if first is None or first % len(frames) or frames != list(range(first, first + len(frames))):
-            raise Unsupported(f"no huge page of order {state.order} to be had")
-        flags = self._bench.frames.flags(first, 2)
-        if not (flags[0] & PageFlag.COMPOUND_HEAD and flags[1] & PageFlag.COMPOUND_TAIL):
+        first = frames[0] or 0
+        head, tail = self._bench.frames.flags(first, 2)
+        is_compound = head & PageFlag.COMPOUND_HEAD and tail & PageFlag.COMPOUND_TAIL
+        if first % len(frames) or frames != [*range(first, first + len(frames))] or not is_compound:
             raise Unsupported(f"no huge page of order {state.order} to be had")
         mapper.whole, mapper.mapped = True, bits_of(0, len(frames))
         self._pages[node].append(KernelPage([mapper], state.order, first))
@@ -173,16 +159,12 @@ class KernelPages:
         return child
 
     def _mapwhole(self, page: KernelPage, _before: PageState) -> None:
-        source = page.find_by_pmd()
-        if source is None:
-            raise Unsupported("mapwhole where no PMD entry is left to be copied")
+        source = page.mapper(lambda mapper: mapper.whole, "mapwhole where no PMD entry is left to be copied")
         page.mappers.append(self._fork(source))
         page.shared = True
 
     def _unmapwhole(self, page: KernelPage, _before: PageState) -> None:
-        mapper = page.find_by_pmd()
-        if mapper is None:
-            raise Unsupported("unmapwhole where nothing maps the page whole")
+        mapper = page.mapper(lambda mapper: mapper.whole, "unmapwhole where nothing maps the page whole")
         mapper.request("unmap", 0, page.subpages)
         mapper.whole, mapper.mapped = False, 0
 
@@ -221,30 +203,22 @@ class KernelPages:
             self._drop(mapper, bits_of(low, length))
 
     def _splitpmd(self, page: KernelPage, _before: PageState) -> None:
-        mapper = page.find_by_pmd()
-        if mapper is None:
-            raise Unsupported("splitpmd where nothing maps the page whole")
-        self._divide(mapper, page)
+        self._divide(page.mapper(lambda mapper: mapper.whole, "splitpmd where nothing maps the page whole"), page)
 
     def _pin(self, page: KernelPage, _before: PageState) -> None:
-        mapper = next((mapper for mapper in page.mappers if mapper.mapped), None)
-        if mapper is None:
-            raise Unsupported("pin of a page that nothing maps")
+        mapper = page.mapper(lambda mapper: mapper.mapped, "pin of a page that nothing maps")
         mapper.request("pin", next(runs(mapper.mapped))[0])
         mapper.pins += 1
 
     def _unpin(self, page: KernelPage, _before: PageState) -> None:
-        mapper = next((mapper for mapper in page.mappers if mapper.pins), None)
-        if mapper is None:
-            raise Unsupported("unpin where no process holds a pin")
+        mapper = page.mapper(lambda mapper: mapper.pins, "unpin where no process holds a pin")
         mapper.request("unpin")
         mapper.pins -= 1
 
     def _write(self, page: KernelPage, _before: PageState, first: int, count: int, byte: int = DATA) -> None:
-        mapper = page.find_covering(bits_of(first, count))
-        if page.shared or mapper is None:
-            raise Unsupported("a write to a page that was shared: the kernel may copy it")
-        mapper.request("fill", first, count, byte)
+        bits = 0 if page.shared else bits_of(first, count)
+        reason = "a write to a page that was shared: the kernel may copy it"
+        page.mapper(lambda mapper: bits and mapper.mapped & bits == bits, reason).request("fill", first, count, byte)
 
     def _zero(self, page: KernelPage, before: PageState, first: int, count: int) -> None:
         self._write(page, before, first, count, 0)

@@ -13,7 +13,7 @@ from ..common.program import Program
 from ..common.script import Script
 from ..common.text import escape
 from .bench import Bench
-from .comparison import Comparison, CounterDifference, Difference, kind_of
+from .comparison import Comparison, CounterDifference, Difference
 from .expected_answers import ExpectedAnswer, ExpectedRun, Unsupported, expect_run
 from .pages import DATA, KernelPages
 from .states import NodeState, Observation, join_letters
@@ -61,12 +61,13 @@ def print_line(line: str) -> None:
 
 @dataclass
 class RunComparer:
-    """Compares runs. `sums` counts commands and comparisons; `report` is called with each command; `looks` keeps each
-    look."""
+    """Compares runs, or only looks. `sums` counts commands and comparisons; `report` is called with each command; `looks`
+    keeps each look."""
 
-    sums: dict[str, int] = field(default_factory=Tallies)
+    sums: Tallies[str] = field(default_factory=Tallies)
     report: Callable[[str], None] = ignore_line
     looks: list[Observation] | None = None
+    compares: bool = True
 
     def compare_run(self, expected_run: ExpectedRun, zero_filled: bool, kernel: KernelPages) -> str:
         """Returns the letters of the known differences that were met. Difference names the command after which the own
@@ -75,37 +76,29 @@ class RunComparer:
         nodes = zip(options.orders, options.underused)
         states = [NodeState(order, switch, zero_filled, kernel.drops_zeros) for order, switch in nodes]
         comparison = Comparison(states, expected_run.known, expected_run.small, kernel.scans_exactly)
-        where, word, place = "before all", "", 0
         try:
-            comparison.set_place(where)
-            comparison.compare(self._look(kernel, states))
+            self._look(kernel, states, comparison)
             for expected in expected_run.answers:
-                word, place = expected.words[0], expected.place
-                where = f"command {place}: {' '.join(expected.words)}"
-                self.report(f"  {escape(where)} -> {escape(expected.answer)}")
-                self.run_command(expected, states, kernel)
-                observed = self._look(kernel, states)
-                comparison.set_place(where, word, place)
-                comparison.update(expected, observed)
-                comparison.compare(observed)
+                comparison.command = expected
+                self.report(f"  {escape(comparison.where)} -> {escape(expected.answer)}")
+                self._run_command(expected, states, kernel)
+                self._look(kernel, states, comparison)
         except Difference as difference:
-            earlier = f"; before it {comparison.counters}" if comparison.counters else ""
-            kind = kind_of(difference.kind or str(difference), word)
-            raise Difference(f"{difference} ({where}){earlier}", kind, place) from difference
+            raise comparison.placed(difference) from difference
         finally:
-            for what, many in comparison.sums.items():
-                self.sums[what] += many
+            self.sums.update(comparison.sums)
         if comparison.counters:
             raise comparison.counters
         return join_letters(comparison.known)
 
-    def _look(self, kernel: KernelPages, states: Sequence[NodeState]) -> Observation:
+    def _look(self, kernel: KernelPages, states: Sequence[NodeState], comparison: Comparison) -> None:
         observed = kernel.look(states)
         if self.looks is not None:
             self.looks.append(observed)
-        return observed
+        if self.compares:
+            comparison.compare(observed)
 
-    def run_command(self, expected: ExpectedAnswer, states: Sequence[NodeState], kernel: KernelPages) -> None:
+    def _run_command(self, expected: ExpectedAnswer, states: Sequence[NodeState], kernel: KernelPages) -> None:
         """Runs one command, and applies its events to its node."""
         state = states[expected.node]
         if not expected.is_refused:

@@ -6,13 +6,13 @@ Each step is a run, so what counts is what the kernel shows of the smaller scrip
 from __future__ import annotations
 
 import time
+from collections.abc import Callable, Iterator, Sequence
 from dataclasses import dataclass, replace
 from itertools import islice
-from typing import Callable, Iterator, Sequence
 
 from ..common.errors import RunFailed
 from ..common.machine import kernel
-from ..common.script import Command, Options, Script, script_of
+from ..common.script import MARK, Command, Options, Script, text_of
 from ..common.text import escape
 from .expected_answers import PAGE_COMMANDS
 from .runner import Outcome, Result
@@ -33,13 +33,7 @@ class Draft:
 
     def script(self, name: str) -> Script:
         """Returns the script."""
-        lines, section = [f"# thpsplit {' '.join(self.options.words())}"], -1
-        for command in self.commands:
-            if command.section != section:
-                section = command.section
-                lines.append(f"worker {section}" if section else "setup")
-            lines.append(" ".join(command.words))
-        return script_of(name, "\n".join(lines) + "\n")
+        return Script(name, f"{MARK}{' '.join(self.options.words())}\n{text_of(self.commands)}", self.options)
 
 
 @dataclass(frozen=True)
@@ -58,8 +52,7 @@ class SmallScript:
     def lines(self) -> list[str]:
         """Returns what people read."""
         words = [escape(" ".join(command.words)) for command in self.script.commands()]
-        return [f"smallest, {len(words)} commands after {self.runs} runs: {'; '.join(words)}",
-                f"it {self.outcome.line()}"]
+        return [f"smallest, {len(words)} commands after {self.runs} runs: {'; '.join(words)}", f"it {self.outcome.line()}"]
 
 
 class Shrinker:
@@ -133,7 +126,7 @@ def drop(draft: Draft, gone: set[int]) -> Draft:
             if numbers[page] < 0:
                 continue
             words[2] = str(numbers[page])
-        kept.append(Command(command.section, tuple(words)))
+        kept.append(replace(command, words=words))
     return replace(draft, commands=tuple(kept))
 
 
@@ -144,36 +137,22 @@ def cut_end(draft: Draft, outcome: Outcome) -> Iterator[Draft]:
 
 def join_sections(draft: Draft, _outcome: Outcome) -> Iterator[Draft]:
     """All commands in one section."""
-    one = tuple(Command(0, command.words) for command in draft.commands)
-    yield Draft(replace(draft.options, workers=1), one)
-
-
-def without_node(draft: Draft, gone: int) -> Draft:
-    """Returns a draft without a node and its commands; the numbers of later nodes close up."""
-    options = draft.options
-    kept = [node for node in range(options.nodes) if node != gone]
-    orders, switches = [options.orders[node] for node in kept], [options.underused[node] for node in kept]
-    fewer = replace(options, nodes=len(kept), orders=tuple(orders), underused=tuple(switches))
-    commands = []
-    for command in draft.commands:
-        node = number_at(command, 1)
-        if node != gone:
-            words = (command.words[0], str(node - (node > gone)), *command.words[2:])
-            commands.append(Command(command.section, words))
-    return Draft(fewer, tuple(commands))
+    yield Draft(replace(draft.options, workers=1), tuple(replace(command, section=0) for command in draft.commands))
 
 
 def drop_node(draft: Draft, _outcome: Outcome) -> Iterator[Draft]:
-    """A node and its commands."""
-    if draft.options.nodes > 1:
-        yield from (without_node(draft, node) for node in range(draft.options.nodes))
-
-
-def with_scan(draft: Draft, first: int, last: int) -> Draft:
-    """Returns a draft with a scan instead of the batch between the places of its `take` and its `putback`."""
-    take = draft.commands[first]
-    scan = Command(take.section, ("scan", *take.words[1:]))
-    return replace(draft, commands=(*draft.commands[:first], scan, *draft.commands[last + 1:]))
+    """A node and its commands; the numbers of later nodes close up."""
+    options = draft.options
+    for gone in range(options.nodes if options.nodes > 1 else 0):
+        orders, switches = (tuple(each for node, each in enumerate(list_) if node != gone)
+                            for list_ in (options.orders, options.underused))
+        commands = []
+        for command in draft.commands:
+            node = number_at(command, 1)
+            if node != gone:
+                words = (command.words[0], str(node - (node > gone)), *command.words[2:])
+                commands.append(replace(command, words=words))
+        yield Draft(replace(options, nodes=options.nodes - 1, orders=orders, underused=switches), tuple(commands))
 
 
 def scan_batch(draft: Draft, _outcome: Outcome) -> Iterator[Draft]:
@@ -184,7 +163,8 @@ def scan_batch(draft: Draft, _outcome: Outcome) -> Iterator[Draft]:
         while end < len(commands) and [*commands[end].words] == ["splitnext", *node]:
             end += 1
         if take.words[0] == "take" and end < len(commands) and [*commands[end].words] == ["putback", *node]:
-            yield with_scan(draft, first, end)
+            scan = replace(take, words=("scan", *take.words[1:]))
+            yield replace(draft, commands=(*commands[:first], scan, *commands[end + 1:]))
 
 
 def drop_part(draft: Draft, _outcome: Outcome) -> Iterator[Draft]:
@@ -203,13 +183,6 @@ def drop_pair(draft: Draft, _outcome: Outcome) -> Iterator[Draft]:
         yield from (drop(draft, {i, j}) for i in range(count) for j in range(i + 2, count))
 
 
-def with_number(draft: Draft, place: int, operand: int, number: int) -> Draft:
-    """Returns a draft with another number in a command."""
-    command = draft.commands[place]
-    changed = Command(command.section, (*command.words[:operand], str(number), *command.words[operand + 1:]))
-    return replace(draft, commands=(*draft.commands[:place], changed, *draft.commands[place + 1:]))
-
-
 def lower_number(draft: Draft, _outcome: Outcome) -> Iterator[Draft]:
     """A number that is neither a node nor a page: 0, 1, half of it, one less."""
     for place, command in enumerate(draft.commands):
@@ -217,13 +190,14 @@ def lower_number(draft: Draft, _outcome: Outcome) -> Iterator[Draft]:
             number = number_at(command, operand)
             for lower in sorted({0, 1, number // 2, number - 1}):
                 if 0 <= lower < number:
-                    yield with_number(draft, place, operand, lower)
+                    words = (*command.words[:operand], str(lower), *command.words[operand + 1:])
+                    changed = replace(command, words=words)
+                    yield replace(draft, commands=(*draft.commands[:place], changed, *draft.commands[place + 1:]))
 
 
 def switch_off(draft: Draft, _outcome: Outcome) -> Iterator[Draft]:
     """The thresholds of underused pages."""
-    options = draft.options
-    yield replace(draft, options=replace(options, underused=(None,) * options.nodes))
+    yield replace(draft, options=replace(draft.options, underused=(None,) * draft.options.nodes))
 
 
 STEPS: Sequence[Step] = (cut_end, join_sections, drop_node, scan_batch, drop_part, drop_pair, switch_off, lower_number)

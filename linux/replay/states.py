@@ -1,6 +1,6 @@
-"""What a script is compared by: what the kernel shows after a command, the known differences between kernel and model by letter
-(docs/LINUX.md names the kernel's function for each), and a node by its journal: map counts, frames, the queue, and what is counted
-in the model's way and in the kernel's.
+"""What a script is compared by: what the kernel shows after a command, the known differences between kernel and model by
+letter (docs/LINUX.md names the kernel's function for each), and a node by its journal: map counts, frames, the queue, and
+what is counted in the model's way and in the kernel's.
 
 The model's rules are those of docs/MODEL.md; the kernel's are described where a field needs them (mm/rmap.c and
 mm/huge_memory.c of the kernel).
@@ -52,10 +52,10 @@ class PageObservation:
 
 @dataclass(frozen=True)
 class Observation:
-    """The kernel at one moment. Counters since the script's start, the PMD splits that only served to map less than
-    a whole page taken off. A queue lists page numbers, oldest first, and a frame of no page as its negative; None: it
-    wasn't read. Where the kernel has a queue for each NUMA node, they are joined in the order of these nodes; `numa_nodes` has
-    the NUMA node of each queued page that isn't on node 0."""
+    """The kernel at one moment. Counters since the script's start, the PMD splits that only served to map less than a whole
+    page taken off. A queue lists page numbers, oldest first, and a frame of no page as its negative; None: it wasn't read.
+    Where the kernel has a queue for each NUMA node, they are joined in the order of these nodes; `numa_nodes` has the NUMA
+    node of each queued page that isn't on node 0."""
 
     counts: Counts
     pages: dict[PageName, PageObservation]
@@ -64,12 +64,16 @@ class Observation:
 
     def line(self) -> str:
         """Returns the look as a line of JSON."""
-        machine = {key.value: value for key, value in self.counts.machine.items()}
-        sizes = [[key.value, order, value] for (key, order), value in self.counts.sizes.items()]
-        pages = [[*name, page.whole, [[count, len([*run])] for count, run in groupby(page.counts)], hex(page.mapped)]
-                 for name, page in self.pages.items()]
-        numa_nodes = {"numa_nodes": [[*name, numa_node] for name, numa_node in self.numa_nodes.items()]} if self.numa_nodes else {}
-        return json.dumps({"machine": machine, "sizes": sizes, "pages": pages, "queues": self.queues, **numa_nodes})
+        document: dict[str, object] = {
+            "machine": {key.value: value for key, value in self.counts.machine.items()},
+            "sizes": [[key.value, order, value] for (key, order), value in self.counts.sizes.items()],
+            "pages": [[*name, page.whole, [[count, len([*run])] for count, run in groupby(page.counts)], hex(page.mapped)]
+                      for name, page in self.pages.items()],
+            "queues": self.queues,
+        }
+        if self.numa_nodes:
+            document["numa_nodes"] = [[*name, numa_node] for name, numa_node in self.numa_nodes.items()]
+        return json.dumps(document)
 
 
 @dataclass
@@ -90,26 +94,18 @@ class EventCounts:
 class PageState:
     """A page; sets of subpages are numbers."""
 
-    subpages: int
-    own: list[int]
+    own: list[int]  # PTE mappings of each subpage
     zero: int
+    held: int
     whole: int = 1
-    pins: int = 0
-    held: int = 0
     live: bool = True
     split: bool = False
     partly: bool = False
     dropped_zero: int = 0  # mapped zero-filled subpages that the kernel gave back at the split (B)
 
-    @staticmethod
-    def new(order: int, zero_filled: bool) -> PageState:
-        subpages = 1 << order
-        every = bits_of(0, subpages)
-        return PageState(subpages, [0] * subpages, every if zero_filled else 0, held=every)
-
     @property
     def every(self) -> int:
-        return bits_of(0, self.subpages)
+        return bits_of(0, len(self.own))
 
     def totals(self) -> tuple[int, ...]:
         """Returns the map count of each subpage."""
@@ -117,9 +113,24 @@ class PageState:
 
     def used_subpages(self) -> int:
         """Returns the subpages that are mapped."""
-        if self.whole:
-            return self.every
-        return sum(1 << i for i, own in enumerate(self.own) if own)
+        return self.every if self.whole else sum(1 << i for i, own in enumerate(self.own) if own)
+
+    def change(self, event: Event) -> None:
+        """Applies an event to the mappings and the content."""
+        if event.word == "mapwhole":
+            self.whole += 1
+        elif event.word == "unmapwhole":
+            self.whole -= 1
+        elif event.word in ("mapsub", "unmapsub"):
+            for i in range(event.first, event.first + event.count):
+                self.own[i] += 1 if event.word == "mapsub" else -1
+        elif event.word == "splitpmd":
+            self.whole -= 1
+            self.own = [own + 1 for own in self.own]
+        elif event.word == "write":
+            self.zero &= ~bits_of(event.first, event.count)
+        elif event.word == "zero":
+            self.zero |= bits_of(event.first, event.count)
 
 
 @dataclass
@@ -132,92 +143,55 @@ class NodeState:
     drops_zeros: bool = True  # the kernel gives mapped zero-filled subpages back at any split (B)
     pages: list[PageState] = field(default_factory=list)
     queue: list[int] = field(default_factory=list)
-    flight: list[int] = field(default_factory=list)
     event_counts: EventCounts = field(default_factory=EventCounts)
-
-    @property
-    def splits_underused(self) -> bool:
-        return self.threshold is not None
 
     def apply(self, event: Event) -> None:
         """Applies one event of the journal. InputFault where it can't have happened here."""
         try:
-            self._apply(event)
+            if event.page is not None:
+                self._apply(event, event.page)
         except (IndexError, ValueError) as error:
             raise InputFault(f"a journal with an event that can't be: {event.text()}") from error
 
-    def _apply(self, event: Event) -> None:
-        if event.word == "close":
-            return
-        if event.page is None or event.first + event.count > 1 << self.order:
-            raise ValueError("no page, or a range beyond it")
+    def _apply(self, event: Event, number: int) -> None:
         if event.word == "alloc":
-            self.pages.append(PageState.new(self.order, self.zero_filled))
-            if self.splits_underused:
-                self.queue.append(event.page)
+            every = bits_of(0, 1 << self.order)
+            self.pages.append(PageState([0] * (1 << self.order), every if self.zero_filled else 0, every))
+            if self.threshold is not None:
+                self.queue.append(number)
             return
-        page = self.pages[event.page]
-        self._mappings(event, page)
-        self._places(event, page)
-        if event.outcome or event.word == "split":
-            page.held &= ~event.given
-        if event.outcome == "queued":
-            self.queue.append(event.page)
-            self.event_counts.queued += 1
+        if event.first + event.count > 1 << self.order:
+            raise ValueError("a range beyond the page")
+        page, tallies = self.pages[number], self.event_counts
+        before = page.used_subpages()
+        page.change(event)
+        after = page.used_subpages()
+        if after and before & ~after and not page.partly:
+            page.partly = True
+            tallies.first_partly += not page.split
+        if event.word == "splitpmd":
+            tallies.split_pmd += 1
+        elif event.word == "taken":
+            self.queue.remove(number)
+        elif event.word == "pinned":
+            tallies.failed += 1
+        elif event.word == "split":
+            self._split(page)
+        if event.word == "back" or event.outcome == "queued":
+            self.queue.append(number)
+            tallies.queued += event.outcome == "queued"
         elif event.outcome == "freed":
             page.live = False
-            self.queue = [other for other in self.queue if other != event.page]
-
-    def _mappings(self, event: Event, page: PageState) -> None:
-        span = range(event.first, event.first + event.count)
-        before = page.used_subpages() if event.word in ("unmapwhole", "unmapsub") else 0
-        if event.word == "mapwhole":
-            page.whole += 1
-        elif event.word == "unmapwhole":
-            page.whole -= 1
-        elif event.word == "mapsub":
-            for i in span:
-                page.own[i] += 1
-        elif event.word == "unmapsub":
-            for i in span:
-                page.own[i] -= 1
-        elif event.word == "splitpmd":
-            page.whole -= 1
-            page.own = [own + 1 for own in page.own]
-            self.event_counts.split_pmd += 1
-        elif event.word in ("pin", "unpin"):
-            page.pins += 1 if event.word == "pin" else -1
-        elif event.word in ("write", "zero"):
-            bits = bits_of(event.first, event.count)
-            page.zero = page.zero & ~bits | (bits if event.word == "zero" else 0)
-        after = page.used_subpages() if before else 0
-        if after and after != before and not page.partly:
-            page.partly = True
-            self.event_counts.first_partly += not page.split
-
-    def _places(self, event: Event, page: PageState) -> None:
-        number = event.page
-        if number is None:
-            raise ValueError("no page")
-        if event.word == "taken":
-            self.queue.remove(number)
-            self.flight.append(number)
-        elif event.word == "pinned":
-            self.event_counts.failed += 1
-        elif event.word in ("split", "used", "back", "dropped"):
-            self.flight.remove(number)
-            if event.word == "back":
-                self.queue.append(number)
-            elif event.word == "split":
-                self._split(page)
+            self.queue = [other for other in self.queue if other != number]
+        page.held &= ~event.given
 
     def _split(self, page: PageState) -> None:
-        event_counts = self.event_counts
-        event_counts.split += 1
-        event_counts.underused += not page.partly
+        tallies = self.event_counts
+        tallies.split += 1
+        tallies.underused += not page.partly
         if not page.partly and any(page.own):  # the kernel unmaps PTE by PTE: the page becomes partly mapped on the way
-            event_counts.perhaps_partly += bool(page.whole)
-            event_counts.partly_by_split += not page.whole
-        event_counts.split_pmd += page.whole
-        page.dropped_zero = page.zero & page.used_subpages() if self.drops_zeros and not self.splits_underused else 0
+            tallies.perhaps_partly += bool(page.whole)
+            tallies.partly_by_split += not page.whole
+        tallies.split_pmd += page.whole
+        page.dropped_zero = page.zero & page.used_subpages() if self.drops_zeros and self.threshold is None else 0
         page.own, page.whole, page.split = list(page.totals()), 0, True

@@ -94,7 +94,7 @@ class ModelKernel:
                     counts = tuple(count if mapped >> at & 1 else 0 for at, count in enumerate(page.totals()))
                     pages[node, number] = PageObservation(0, counts, mapped)
                 else:
-                    pages[node, number] = PageObservation(page.subpages if page.live else 0, page.totals(), 0)
+                    pages[node, number] = PageObservation(len(page.own) if page.live else 0, page.totals(), 0)
         return Observation(Counts({**machine}, {**sizes}), pages, [list(queue) for queue in self._queues])
 
 

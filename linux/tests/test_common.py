@@ -57,10 +57,10 @@ class ProgramTest(unittest.TestCase):
                 with mock.patch.dict(os.environ, {"PATH": name}):
                     os.environ.pop("THPSPLIT", None)
                     with self.assertRaises(Unavailable):
-                        programs.find_program()
+                        programs.Program()
                     here.write_text("")
                     here.chmod(0o755)
-                    self.assertEqual(programs.find_program(), str(here))
+                    self.assertEqual(programs.Program().path, str(here))
 
 
 class SetsTest(unittest.TestCase):

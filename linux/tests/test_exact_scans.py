@@ -11,7 +11,7 @@ from typing import Any, Dict, List, Tuple
 
 from ..common.errors import InputFault, Unavailable
 from ..common.script import Script, script_of
-from ..common.shrinker_debug import PREFIX, ShrinkerFile, find_shrinker
+from ..common.shrinker_debug import PREFIX, ShrinkerFile
 from ..replay.comparison import Difference
 from ..replay.expected_answers import Unsupported, expect_run
 from ..replay.generator import Shape, scripts
@@ -32,16 +32,16 @@ class ShrinkerFileTest(unittest.TestCase):
             path = Path(folder) / f"{PREFIX}12" / "scan"
             path.parent.mkdir()
             path.write_text("")
-            find_shrinker(2, folder).scan(folder, 1, 8)
+            ShrinkerFile(2, folder).scan(folder, 1, 8)
             self.assertEqual(path.read_text(), f"{os.stat(folder).st_ino} 1 8")
 
     def test_what_is_lacking_is_named(self) -> None:
         with tempfile.TemporaryDirectory() as folder:
             for place in (folder, f"{folder}/none"):
                 with self.assertRaisesRegex(Unavailable, "SHRINKER_DEBUG"):
-                    ShrinkerFile(place)
+                    ShrinkerFile(2, place)
             with self.assertRaisesRegex(Unavailable, "version 2"):
-                find_shrinker(1, folder)
+                ShrinkerFile(1, folder)
 
 
 class AskedTest(unittest.TestCase):

@@ -18,7 +18,7 @@ from ..common.counters import Counter, Counts, SizeCounter
 from ..common.errors import InputFault, Unavailable
 from ..common.script import MARK, Script
 from ..replay import bisection
-from ..replay.expected_answers import Step, read_expected_answers
+from ..replay.expected_answers import read_expected_answers
 from ..replay.letters import (
     MOST_RUNS, ONLY_RECORDINGS, Finding, LetterScript, Look, Match, find_all, find_letter, letters, markdown, read_letter,
     read_look,
@@ -48,8 +48,7 @@ def look_at_model(script: Script) -> Observation:
     """A kernel that does everything as the model."""
     options = script.options
     states = [NodeState(order, switch, is_zero_filled(script)) for order, switch in zip(options.orders, options.underused)]
-    steps = [Step(at, each.section, each.words) for at, each in enumerate(script.commands(), 1)]
-    for expected in read_expected_answers(steps, script.text, options, InProcessProgram()):
+    for expected in read_expected_answers(script.commands(), script.text, options, InProcessProgram()):
         for event in expected.events:
             states[expected.node].apply(event)
     count = {name: sum(getattr(state.event_counts, name) for state in states)

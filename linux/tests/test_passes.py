@@ -52,9 +52,9 @@ class ComparisonTests(unittest.TestCase):
             state.apply(Event(0, "unmapsub", page, 0, 1))
         state.queue = [0, 1, 2, 3, 4]
         comparison = Comparison([state], set(), set())
-        comparison.update(ExpectedAnswer(1, ["count", "0"], "", ()), self.look(state, 0, [0, 2, 1, 3, 4]))
+        comparison.command = ExpectedAnswer(1, ["count", "0"], "", ())
         comparison.compare(self.look(state, 0, [0, 2, 1, 3, 4]))
-        comparison.update(scan_of(state.queue), self.look(state, failed, queue))
+        comparison.command = scan_of(state.queue)
         comparison.compare(self.look(state, failed, queue))
         return comparison
 

@@ -107,16 +107,16 @@ class SeedsTest(unittest.TestCase):
         with tempfile.TemporaryDirectory() as folder:
             path = Path(folder) / "seeds"
             path.write_text(text, encoding="utf-8")
-            return list(list_scripts(parse_words(["--seeds", str(path)])).scripts)
+            return list(list_scripts(parse_words(["--seeds", str(path)]))[1])
 
     def test_a_line_is_the_first_script_of_its_seed(self) -> None:
         found = self.read("# two\n7\n\n9 --thresholds 100 --length 12  # short\n")
         words = ["--random", "1", "--seed", "9", "--thresholds", "100", "--length", "12"]
-        wanted = [next(list_scripts(parse_words(each)).scripts) for each in (["--random", "1", "--seed", "7"], words)]
+        wanted = [next(list_scripts(parse_words(each))[1]) for each in (["--random", "1", "--seed", "7"], words)]
         self.assertEqual(found, wanted)
 
     def test_the_fixed_set_is_fixed(self) -> None:
-        found = list(list_scripts(parse_words(["--seeds", str(SEEDS)])).scripts)
+        found = list(list_scripts(parse_words(["--seeds", str(SEEDS)]))[1])
         self.assertEqual((len(found), len({script.name for script in found})), (200, 200))
         digest = hashlib.sha256("".join(script.text for script in found).encode("ascii")).hexdigest()
         self.assertEqual(digest, DIGEST, "a change of the generator or of linux/seeds.txt changes what results mean")

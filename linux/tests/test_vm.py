@@ -17,14 +17,12 @@ from unittest import mock
 
 from ..common.errors import InputFault, RunFailed, Unavailable
 from ..vm import init
-from ..vm.archive import Archive
-from ..vm.guest_files import LIBRARY, GuestFiles, libraries_of
+from ..vm.guest_files import LIBRARY, Archive, GuestFiles, libraries_of
 from ..vm.kernels import find_kernel
-from ..vm.messages import Console, MessageReader, parse_status
 from ..vm.options import parse_words
 from ..vm.packages import extract_image, next_package
-from ..vm.guest_run import GuestRun, KvmFailed, Limits
-from ..vm.virtual_machine import QEMU, Shape, VirtualMachine, memory_file
+from ..vm.guest_run import Console, GuestRun, KvmFailed, MessageReader, parse_status
+from ..vm.virtual_machine import QEMU, VirtualMachine, memory_file, words_of
 
 LINUX = Path(__file__).resolve().parent.parent
 IMAGE = bytes(0x202) + b"HdrS" + b"the rest"
@@ -111,7 +109,7 @@ class KernelTests(unittest.TestCase):
         boot = self.folder / "arch/x86/boot"
         boot.mkdir(parents=True)
         (boot / "bzImage").write_bytes(IMAGE)
-        self.assertEqual(find_kernel(str(self.folder), None).image, IMAGE)
+        self.assertEqual(find_kernel(str(self.folder), None)[1], IMAGE)
 
     def test_what_is_no_kernel_is_named(self) -> None:
         (self.folder / "short").write_bytes(b"HdrS")
@@ -130,7 +128,7 @@ class KernelTests(unittest.TestCase):
         with_image = self.package("linux-binary-9-amd64", "", {"usr/lib/modules/9/vmlinuz": IMAGE, "boot/config-9": b"x"})
         without = self.package("linux-image-9-amd64", "kmod, linux-binary-9-amd64 (= 1), dracut | mkinitrd", {})
         self.assertEqual(extract_image(with_image), IMAGE)
-        self.assertEqual(find_kernel(with_image, None).image, IMAGE)
+        self.assertEqual(find_kernel(with_image, None)[1], IMAGE)
         self.assertEqual(extract_image(without), b"")
         self.assertEqual(next_package(without), "linux-binary-9-amd64")
         with self.assertRaises(Unavailable):
@@ -165,7 +163,7 @@ class WordTests(unittest.TestCase):
             self.assertNotIn("\n", str(caught.exception))
 
     def test_memory_and_processors_are_shared_among_the_nodes(self) -> None:
-        words = Shape(2048, 2, 3).words()
+        words = words_of(parse_words(["--memory", "2048", "--numa", "2", "--processors", "3", "image", "--", "ls"]))
         self.assertIn("node,nodeid=0,memdev=memory0,cpus=0,cpus=2", words)
         self.assertIn("node,nodeid=1,memdev=memory1,cpus=1", words)
         self.assertIn("memory-backend-ram,id=memory1,size=1024M", words)
@@ -176,17 +174,11 @@ class FirstProcessTests(unittest.TestCase):
 
     def run_command(self, *words: str) -> Tuple[int, List[Tuple[bytes, bytes]]]:
         """Returns the status of a command and the messages that were sent."""
-        (out, out_end), (problems, problems_end), (line, line_end) = os.pipe(), os.pipe(), os.pipe()
-        plan = {"command": list(words), "folder": "/", "environment": {"COLOUR": "red"}}
-        child = init.start(plan, out_end, problems_end)
-        os.close(out_end)
-        os.close(problems_end)
-        status = init.Follower(line_end, child, {out: b"O", problems: b"E"}).follow()
+        line, line_end = os.pipe()
+        status = init.run_command(line_end, {"command": list(words), "folder": "/", "environment": {"COLOUR": "red"}})
         os.close(line_end)
         with open(line, "rb") as file:
             found = list(MessageReader().add(file.read()))
-        os.close(out)
-        os.close(problems)
         return status, [each for each in found if each[0] != b"B"]
 
     def test_outputs_and_status_are_the_commands(self) -> None:
@@ -222,11 +214,15 @@ class RunTests(unittest.TestCase):
         path.start()
         self.addCleanup(path.stop)
 
-    def run_guest(self, word: str, limits: Limits = Limits(60, 0, 60), with_kvm: bool = False) -> Tuple[int, str, List[str]]:
+    def run_guest(
+        self, word: str, boot: float = 60, limit: float = 0, silence: float = 60, with_kvm: bool = False
+    ) -> Tuple[int, str, List[str]]:
         """Returns the status, the outputs, and the console's lines; raises what the run does."""
         file = memory_file("empty", b"")
-        machine = VirtualMachine(Shape(512, 1, 1), file, file, with_kvm, f"stand-in={word}")
-        run = GuestRun(machine, "image", limits)
+        options = parse_words(["--append", f"stand-in={word}", "image", "--", "true"])
+        options.boot_limit, options.limit, options.silence = boot, limit, silence
+        machine = VirtualMachine(options, file, file, with_kvm)
+        run = GuestRun(machine, "image", options)
         written = Streams()
         try:
             with mock.patch("sys.stdout", written), mock.patch("sys.stderr", written):
@@ -244,13 +240,13 @@ class RunTests(unittest.TestCase):
             self.run_guest("panics")
         self.assertEqual(self.console[0], "[ 0.1] Linux \\x1b[31mstand-in")
         with self.assertRaisesRegex(RunFailed, "^image does not boot within 0.1 s: it runs no first process$"):
-            self.run_guest("never", Limits(0.1, 0, 60))
+            self.run_guest("never", boot=0.1)
 
     def test_a_guest_that_hangs_or_takes_too_long_is_named(self) -> None:
         with self.assertRaisesRegex(RunFailed, "^image hangs: it has sent nothing for 0.1 s$"):
-            self.run_guest("sleeps", Limits(60, 0, 0.1))
+            self.run_guest("sleeps", silence=0.1)
         with self.assertRaisesRegex(RunFailed, "^the command does not end within 0.1 s on image$"):
-            self.run_guest("sleeps", Limits(60, 0.1, 60))
+            self.run_guest("sleeps", limit=0.1)
 
     def test_what_the_kernel_lacks_and_wrong_messages_are_named(self) -> None:
         with self.assertRaisesRegex(Unavailable, "^image lacks memory control groups of version 1$"):

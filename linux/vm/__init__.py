@@ -4,10 +4,8 @@
     kernels          the kernel's image: a file, a folder, a Debian package
     packages         images of Debian packages, downloaded and stored in the caller's cache
     unpack           one file of a package, read by a process with limits
-    archive          the initial file system as bytes (cpio, form newc)
     guest_files      what the guest's file system contains: Python, the tools, helpers, the command
     init             the guest's first process; needs nothing of this package
-    messages         what the guest sends, and the end of its console
     virtual_machine  qemu: its words, its start and its end
     guest_run        one run: the boot, the command, limits of time
     __main__         thpvm

@@ -3,19 +3,17 @@
 from __future__ import annotations
 
 import argparse
-import os
 import sys
 import time
 from typing import NoReturn
 
 from ..common.errors import RunFailed, Unavailable
 from ..common.tool import run_tool
-from .archive import Archive
-from .guest_files import GuestFiles, Plan
-from .guest_run import GuestRun, KvmFailed, Limits
+from .guest_files import Archive, GuestFiles
+from .guest_run import GuestRun, KvmFailed
 from .kernels import find_kernel
 from .options import NAME, parse_words
-from .virtual_machine import Shape, VirtualMachine, find_qemu, memory_file
+from .virtual_machine import VirtualMachine, find_qemu, memory_file
 
 UNDECIDED = 125  # git-bisect(1): the commit is skipped
 
@@ -25,17 +23,9 @@ def report(text: str) -> None:
     print(f"{NAME}: {text}", file=sys.stderr, flush=True)
 
 
-def make_files(plan: Plan) -> int:
-    """Returns the descriptor of the guest's initial file system."""
-    descriptor = os.memfd_create("files", os.MFD_CLOEXEC)
-    with open(os.dup(descriptor), "wb") as file:
-        GuestFiles(Archive(file)).add(plan)
-    return descriptor
-
-
 def run_guest(machine: VirtualMachine, name: str, options: argparse.Namespace) -> int:
     """Runs a guest to its end; returns the command's status. Where that fails, the end of the console is written."""
-    run, began = GuestRun(machine, name, Limits(options.boot_limit, options.limit, options.silence)), time.monotonic()
+    run, began = GuestRun(machine, name, options), time.monotonic()
     try:
         status = run.run()
     except RunFailed:
@@ -53,20 +43,20 @@ def run_command() -> int:
     """Carries out the command line, and returns the command's status: with KVM where it works, else by emulation."""
     options, problem = parse_words(), "not wanted"
     find_qemu()
-    kernel, shape = find_kernel(options.kernel, options.suite), Shape(options.memory, options.numa, options.processors)
-    variables = dict(each.split("=", 1) for each in options.set)
-    files = make_files(Plan(options.command, os.getcwd(), options.cgroup, options.file, variables))
-    image = memory_file("kernel", kernel.image)
+    name, data = find_kernel(options.kernel, options.suite)
+    files, image = memory_file("files", b""), memory_file("kernel", data)
+    with open(files, "wb", closefd=False) as file:
+        GuestFiles(Archive(file)).add(options)
     if options.accel != "emulation":
         try:
-            return run_guest(VirtualMachine(shape, image, files, True, options.append), kernel.name, options)
+            return run_guest(VirtualMachine(options, image, files, True), name, options)
         except KvmFailed as failure:
             problem = str(failure)
         if options.accel == "kvm":
             raise Unavailable(f"no KVM: {problem}")
     if options.verbose:
         report(f"emulation, without KVM: {problem}")
-    return run_guest(VirtualMachine(shape, image, files, False, options.append), kernel.name, options)
+    return run_guest(VirtualMachine(options, image, files, False), name, options)
 
 
 def start() -> NoReturn:

@@ -1,28 +1,29 @@
-"""What the guest's file system contains: this machine's Python, the tools with their helpers and programs, a few commands,
-and the files that the caller names.
+"""The guest's initial file system, an archive of cpio's form newc: this machine's Python, the tools with their helpers and
+programs, a few commands, and the files that the caller names.
 
 The tools are in /usr/lib/thpsplit, as `make install` puts them; the path of the checkout is a link to it, so the words of
-a command mean the same in the guest. All files are root's.
+a command mean the same in the guest. All files are root's. Rules of the archive:
+Documentation/driver-api/early-userspace/buffer-format.rst of the kernel.
 """
 
 from __future__ import annotations
 
+import argparse
 import json
 import os
 import re
 import shutil
 import stat
 import subprocess
-from dataclasses import dataclass, field
+from collections.abc import Callable
 from pathlib import Path
-from typing import Callable, Sequence
+from typing import BinaryIO
 
+from ..common.checker import BUILT as BUILT_CHECKER
 from ..common.errors import InputFault, Unavailable
 from ..common.helpers import LINUX, helper
 from ..common.program import BUILT, ENVIRONMENT, find
-from ..common.checker import BUILT as BUILT_CHECKER
 from ..common.text import escape
-from .archive import Archive
 
 LIBRARY = "/usr/lib/thpsplit"
 PYTHON = "/usr/bin/python3"
@@ -35,20 +36,51 @@ FOLDERS_OF_CHECKOUT = ("linux", "tests", "examples", "bench")
 UNUSED = {"__pycache__", "out", "test", "tests", "idlelib", "lib2to3", "ensurepip", "tkinter", "turtledemo", "pydoc_data"}
 MOST_FILE, MOST_FILES = 64 << 20, 100000  # bytes of a file, files of a folder
 SEARCHED = "/usr/local/sbin:/usr/local/bin:/usr/sbin:/usr/bin:/sbin:/bin"
-MERGED = re.compile("/(bin|sbin|lib|lib64)/")
 PASSWD = "root:x:0:0:root:/root:/bin/sh\nnobody:x:65534:65534:nobody:/nonexistent:/usr/sbin/nologin\n"
 GROUP = "root:x:0:\nnogroup:x:65534:\n"
+_PROGRAM, _FILE, _FOLDER, _LINK = 0o755 | stat.S_IFREG, 0o644 | stat.S_IFREG, 0o755 | stat.S_IFDIR, 0o777 | stat.S_IFLNK
 
 
-@dataclass(frozen=True)
-class Plan:
-    """What the guest does: the command and its folder, further files, variables, the version of control groups."""
+class Archive:
+    """Writes entries one by one. Paths are absolute; the folders that a path needs are made before it. A path that is in the
+    archive already stays as it is."""
 
-    command: Sequence[str]
-    folder: str
-    group_version: int
-    files: Sequence[str] = ()
-    environment: dict[str, str] = field(default_factory=dict)
+    def __init__(self, out: BinaryIO) -> None:
+        self._out, self._number = out, 0
+        self._paths: set[str] = {"", "/"}
+
+    def __contains__(self, path: str) -> bool:
+        return path in self._paths
+
+    def add_folder(self, path: str) -> None:
+        """Adds a folder."""
+        self._add(path, _FOLDER, b"")
+
+    def add_file(self, path: str, data: bytes, is_program: bool = False, changed: int = 0) -> None:
+        """Adds a file with the time of its last change."""
+        self._add(path, _PROGRAM if is_program else _FILE, data, changed)
+
+    def add_link(self, path: str, target: str) -> None:
+        """Adds a symbolic link."""
+        self._add(path, _LINK, target.encode())
+
+    def end(self) -> None:
+        """Writes the end of the archive."""
+        self._write("TRAILER!!!", 0, b"", 0)
+
+    def _add(self, path: str, mode: int, data: bytes, changed: int = 0) -> None:
+        if path not in self._paths:
+            self.add_folder(path.rpartition("/")[0])
+            self._paths.add(path)
+            self._write(path.lstrip("/"), mode, data, changed)
+
+    def _write(self, name: str, mode: int, data: bytes, changed: int) -> None:
+        self._number += 1
+        raw = name.encode("utf-8", "surrogateescape") + b"\0"
+        links = 2 if stat.S_ISDIR(mode) else 1
+        fields = (self._number, mode, 0, 0, links, changed & 0xFFFFFFFF, len(data), 0, 0, 0, 0, len(raw), 0)
+        head = f"070701{''.join(f'{field:08x}' for field in fields)}".encode() + raw
+        self._out.write(head + bytes(-len(head) % 4) + data + bytes(-len(data) % 4))
 
 
 def libraries_of(path: str) -> list[str]:
@@ -70,9 +102,8 @@ class GuestFiles:
     """Fills an archive."""
 
     def __init__(self, archive: Archive) -> None:
-        self._archive = archive
-        self._checkout = LINUX.parent
-        self._is_checkout = (self._checkout / "linux/tests").is_dir()
+        self._archive, self._checkout = archive, LINUX.parent
+        self._is_checkout = (LINUX / "tests").is_dir()
         self._programs: list[str] = []
 
     def path_in_guest(self, path: str) -> str:
@@ -80,10 +111,10 @@ class GuestFiles:
         root = str(self._checkout)
         if self._is_checkout and (path == root or path.startswith(f"{root}/")):
             return LIBRARY + path[len(root):]
-        return MERGED.sub(r"/usr/\1/", path, count=1) if MERGED.match(path) else path
+        return re.sub("^/(bin|sbin|lib|lib64)/", r"/usr/\1/", path)
 
-    def add(self, plan: Plan) -> None:
-        """Adds everything that a plan needs."""
+    def add(self, options: argparse.Namespace) -> None:
+        """Adds everything that a command line needs (options.py)."""
         for name in ("bin", "sbin", "lib", "lib64"):
             self._archive.add_folder(f"/usr/{name}")
             self._archive.add_link(f"/{name}", f"usr/{name}")
@@ -91,17 +122,20 @@ class GuestFiles:
             self._archive.add_folder(folder)
         self._archive.add_file("/etc/passwd", PASSWD.encode())
         self._archive.add_file("/etc/group", GROUP.encode())
-        self._add_python()
+        self._add_found(PYTHON)
+        library = standard_library()
+        self._add_folder(library, self.path_in_guest(library), lambda name: name in UNUSED or name.startswith("config-"))
         self._add_tools()
         for name in COMMANDS:
             self._add_found(shutil.which(name, path=SEARCHED))
-        for path in plan.files:
-            self._add_named(path)
-        command = [self._add_command(plan.command[0]), *plan.command[1:]]
+        for path in options.file:
+            self._add_named(os.path.abspath(path))
+        command = [self._add_command(options.command[0]), *options.command[1:]]
         self._add_libraries()
-        folder = self.path_in_guest(plan.folder)
+        folder = self.path_in_guest(os.getcwd())
         self._archive.add_folder(folder)
-        text = {"command": command, "folder": folder, "cgroup": plan.group_version, "environment": dict(plan.environment)}
+        environment = dict(each.split("=", 1) for each in options.set)
+        text = {"command": command, "folder": folder, "cgroup": options.cgroup, "environment": environment}
         self._archive.add_file("/etc/thpvm.json", json.dumps(text).encode())
         self._archive.add_file("/init", Path(__file__).with_name("init.py").read_bytes(), True)
         self._archive.end()
@@ -129,17 +163,9 @@ class GuestFiles:
                 if os.path.isfile(file):
                     self._add_file(file, place + file[len(path):])
 
-    def _add_python(self) -> None:
-        self._add_found(PYTHON)
-        place = standard_library()
-        self._add_folder(place, self.path_in_guest(place), lambda name: name in UNUSED or name.startswith("config-"))
-
     def _add_tools(self) -> None:
-        folders = FOLDERS_OF_CHECKOUT if self._is_checkout else ("linux",)
-        for name in folders:
-            path = self._checkout / name
-            if path.is_dir():
-                self._add_folder(str(path), f"{LIBRARY}/{name}", lambda name: name in NOT_SOURCES)
+        for name in FOLDERS_OF_CHECKOUT if self._is_checkout else ("linux",):
+            self._add_folder(str(self._checkout / name), f"{LIBRARY}/{name}", lambda name: name in NOT_SOURCES)
         if self._is_checkout:
             self._archive.add_link(str(self._checkout), LIBRARY)
         for name in sorted({"mapper", "thpkernel.so", *(path.name for path in (LINUX / "out").glob("*") if path.is_file())}):
@@ -167,12 +193,11 @@ class GuestFiles:
 
     def _add_named(self, path: str) -> None:
         """Adds a file or folder that the caller names, at its path."""
-        full = os.path.abspath(path)
         try:
-            if os.path.isdir(full):
-                self._add_folder(full, self.path_in_guest(full))
+            if os.path.isdir(path):
+                self._add_folder(path, self.path_in_guest(path))
             else:
-                self._add_file(full, self.path_in_guest(full))
+                self._add_file(path, self.path_in_guest(path))
         except (OSError, ValueError) as error:
             reason = getattr(error, "strerror", None) or str(error)
             raise InputFault(f"{escape(path)} can't be put into the guest: {reason}") from error
@@ -192,6 +217,5 @@ class GuestFiles:
         """Adds the libraries of all programs, and the loader."""
         if not os.path.exists(LOADER):
             raise Unavailable(f"no {LOADER}: the guest has the form of x86-64")
-        programs = list(self._programs)
-        for path in dict.fromkeys([LOADER, *(each for program in programs for each in libraries_of(program))]):
+        for path in dict.fromkeys([LOADER, *(each for program in self._programs for each in libraries_of(program))]):
             self._add_found(path)

@@ -1,31 +1,80 @@
-"""One run of a command in a guest: the boot, the command's output and status, limits of time."""
+"""One run of a command in a guest: the boot, the command's output and status, limits of time. The guest sends messages
+(init.py), and has a console; its bytes are anybody's."""
 
 from __future__ import annotations
 
+import argparse
 import os
+import re
 import select
+import struct
 import sys
 import time
-from dataclasses import dataclass
-from typing import Callable
+from collections.abc import Callable, Iterator
+from contextlib import suppress
 
 from ..common.errors import RunFailed, Unavailable
 from ..common.text import escape
-from .messages import Console, MessageReader, parse_status
 from .virtual_machine import KVM_FAILURES, VirtualMachine
 
+MOST_CONTENT = 1 << 16  # bytes of a message
+KEPT_CONSOLE = 1 << 14  # bytes of the console that are kept
+SHOWN_LINES, SHOWN_WIDTH = 20, 160
+PANIC = "Kernel panic - not syncing"
 PART = 1 << 16  # bytes that are read at once
 TICK = 0.5  # seconds between looks at the limits
 SETTLE = 1.0  # seconds in which the rest of an ended machine's console is read
+_HEAD = struct.Struct("<cI")
+_LETTERS = b"ROEBLS"
 
 
-@dataclass(frozen=True)
-class Limits:
-    """Times in seconds: for the boot, for the command (0: none), and for a guest that sends nothing."""
+def parse_status(content: bytes) -> int:
+    """Returns the status that a message's content is. RunFailed where it isn't one."""
+    if not re.fullmatch(rb"[0-9]{1,3}", content) or int(content) > 255:
+        raise RunFailed(f"the guest sends no status: {escape(content)[:40]!r}")
+    return int(content)
 
-    boot: float
-    command: float
-    silence: float
+
+class MessageReader:
+    """Divides the bytes of the guest's line into messages."""
+
+    def __init__(self) -> None:
+        self._rest = b""
+
+    def add(self, data: bytes) -> Iterator[tuple[bytes, bytes]]:
+        """Yields the letter and content of the messages that are whole after these bytes. RunFailed where the bytes can't be
+        messages."""
+        self._rest += data
+        while len(self._rest) >= _HEAD.size:
+            letter, size = _HEAD.unpack_from(self._rest)
+            if letter not in _LETTERS or size > MOST_CONTENT:
+                raise RunFailed(f"the guest sends what is no message: {self._rest[:20]!r}")
+            if len(self._rest) < _HEAD.size + size:
+                return
+            content, self._rest = self._rest[_HEAD.size : _HEAD.size + size], self._rest[_HEAD.size + size :]
+            yield letter, content
+
+
+class Console:
+    """The end of a guest's console."""
+
+    def __init__(self) -> None:
+        self._kept = b""
+
+    def add(self, data: bytes) -> None:
+        """Adds bytes, and forgets the oldest."""
+        self._kept = (self._kept + data)[-KEPT_CONSOLE:]
+
+    def lines(self) -> list[str]:
+        """Returns the last lines, printable; of a kernel that panicked those up to the panic, since a trace follows."""
+        lines = [escape(line)[:SHOWN_WIDTH] for line in re.split(rb"[\r\n]+", self._kept) if line.strip()]
+        panics = [place for place, line in enumerate(lines) if PANIC in line]
+        return lines[: panics[-1] + 1 if panics else len(lines)][-SHOWN_LINES:]
+
+    def find_panic(self) -> str:
+        """Returns the line in which the kernel reports its end, or nothing."""
+        found = re.findall(PANIC.encode() + rb"[^\r\n]*", self._kept)
+        return escape(found[-1])[:SHOWN_WIDTH] if found else ""
 
 
 class KvmFailed(Exception):
@@ -33,9 +82,10 @@ class KvmFailed(Exception):
 
 
 class GuestRun:
-    """Follows a guest until its command has ended. `name` is the kernel's."""
+    """Follows a guest until its command has ended. `name` is the kernel's; the limits are among the options (options.py): times
+    in seconds for the boot, for the command (0: none), and for a guest that sends nothing."""
 
-    def __init__(self, machine: VirtualMachine, name: str, limits: Limits) -> None:
+    def __init__(self, machine: VirtualMachine, name: str, limits: argparse.Namespace) -> None:
         self._machine, self._name, self._limits = machine, name, limits
         self.console, self._messages, self._problems = Console(), MessageReader(), b""
         self._began = self._heard = time.monotonic()
@@ -51,17 +101,20 @@ class GuestRun:
             self._machine.problems: self._hear_qemu,
         }
         while self._status is None:
-            self._read(sources, TICK)
+            self._read(sources)
             if self._status is None:
                 self._check_end(sources)
                 self._check_limits()
         return self._status
 
-    def _read(self, sources: dict[int, Callable[[bytes], None]], patience: float) -> bool:
+    @staticmethod
+    def _read(sources: dict[int, Callable[[bytes], None]]) -> bool:
         """Reads what came within a time; returns whether anything did."""
-        ready, _, _ = select.select(list(sources), [], [], patience)
+        ready, _, _ = select.select(list(sources), [], [], TICK)
         for descriptor in ready:
-            data = read_part(descriptor)
+            data = b""
+            with suppress(ConnectionError):
+                data = os.read(descriptor, PART)
             if data:
                 sources[descriptor](data)
             else:
@@ -95,7 +148,7 @@ class GuestRun:
         if status < 0:
             return
         until = time.monotonic() + SETTLE
-        while sources and self._status is None and time.monotonic() < until and self._read(sources, TICK):
+        while sources and self._status is None and time.monotonic() < until and self._read(sources):
             pass
         if self._status is None:
             words = escape(self._problems.strip().split(b"\n")[-1])[:200]
@@ -103,21 +156,12 @@ class GuestRun:
             raise RunFailed(f"{self._name} {'ended' if self.release else 'does not boot'}: {reason}")
 
     def _check_limits(self) -> None:
-        now = time.monotonic()
+        limits, now, panic = self._limits, time.monotonic(), self.console.find_panic()
         if not self.release:
-            if now - self._began > self._limits.boot:
-                reason = self.console.find_panic() or "it runs no first process"
-                raise RunFailed(f"{self._name} does not boot within {self._limits.boot:g} s: {reason}")
-        elif now - self._heard > self._limits.silence:
-            reason = self.console.find_panic() or f"it has sent nothing for {self._limits.silence:g} s"
-            raise RunFailed(f"{self._name} hangs: {reason}")
-        elif 0 < self._limits.command < now - self._began:
-            raise RunFailed(f"the command does not end within {self._limits.command:g} s on {self._name}")
-
-
-def read_part(descriptor: int) -> bytes:
-    """Returns what a descriptor has, or nothing at its end."""
-    try:
-        return os.read(descriptor, PART)
-    except ConnectionError:
-        return b""
+            if now - self._began > limits.boot_limit:
+                reason = panic or "it runs no first process"
+                raise RunFailed(f"{self._name} does not boot within {limits.boot_limit:g} s: {reason}")
+        elif now - self._heard > limits.silence:
+            raise RunFailed(f"{self._name} hangs: {panic or f'it has sent nothing for {limits.silence:g} s'}")
+        elif 0 < limits.limit < now - self._began:
+            raise RunFailed(f"the command does not end within {limits.limit:g} s on {self._name}")

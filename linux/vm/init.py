@@ -19,11 +19,13 @@ import json
 import os
 import select
 import struct
+import subprocess
 import sys
 import termios
 import time
 import traceback
 import tty
+from contextlib import suppress
 from typing import Any, NoReturn
 
 PLAN = "/etc/thpvm.json"
@@ -42,22 +44,6 @@ def mount(kind: str, place: str, options: str = "") -> str:
     return os.strerror(ctypes.get_errno()) if failed else ""
 
 
-def mount_groups(version: int) -> str:
-    """Mounts control groups of a version; returns what the kernel lacks, or nothing."""
-    if version == 2:
-        return mount("cgroup2", "/sys/fs/cgroup")
-    problem = mount("tmpfs", "/sys/fs/cgroup") or mount("cgroup", "/sys/fs/cgroup/memory", "memory")
-    mount("cgroup", "/sys/fs/cgroup/freezer", "freezer")
-    return problem
-
-
-def open_line() -> int:
-    """Opens the serial line, over which bytes go as they are."""
-    line = os.open(LINE, os.O_RDWR | os.O_NOCTTY)
-    tty.setraw(line, termios.TCSANOW)
-    return line
-
-
 def send(line: int, letter: bytes, content: bytes) -> None:
     """Sends one message."""
     data = letter + struct.pack("<I", len(content)) + content
@@ -65,84 +51,67 @@ def send(line: int, letter: bytes, content: bytes) -> None:
         data = data[os.write(line, data):]
 
 
-def start(plan: dict[str, Any], out: int, problems: int) -> int:
-    """Starts the command, and returns its process number."""
-    child = os.fork()
-    if child:
-        return child
-    words: list[str] = plan["command"]
-    try:
-        os.setsid()
-        for number, descriptor in enumerate((os.open(os.devnull, os.O_RDONLY), out, problems)):
-            os.dup2(descriptor, number)
-        os.chdir(plan["folder"])
-        os.execvpe(words[0], words, {**WORDS, **plan["environment"]})
-    except OSError as error:
-        os.write(2, f"{words[0]}: {error.strerror}\n".encode("utf-8", "backslashreplace"))
-        os._exit(NOT_FOUND if isinstance(error, FileNotFoundError) else NOT_STARTED)
+def reap(child: int) -> int:
+    """Takes the statuses of all processes that have ended, as the first process has to. Returns the child's, or -1."""
+    found = -1
+    with suppress(ChildProcessError):
+        number, status = os.waitpid(-1, os.WNOHANG)
+        while number:
+            if number == child:
+                code = os.waitstatus_to_exitcode(status)
+                found = code if code >= 0 else BY_SIGNAL - code
+            number, status = os.waitpid(-1, os.WNOHANG)
+    return found
 
 
-class Follower:
-    """Sends what the command writes until it has ended."""
-
-    def __init__(self, line: int, child: int, outputs: dict[int, bytes]) -> None:
-        self._line, self._child, self._outputs = line, child, outputs
-        self.status = -1
-
-    def pass_on(self, patience: float) -> bool:
-        """Sends what is written within a time; returns whether anything was."""
-        ready, _, _ = select.select(list(self._outputs), [], [], patience)
+def follow(line: int, child: subprocess.Popen[bytes]) -> int:
+    """Sends what the command writes, and returns its status once it has ended."""
+    assert child.stdout and child.stderr
+    outputs = {child.stdout.fileno(): b"O", child.stderr.fileno(): b"E"}
+    status, beaten, until = -1, 0.0, 0.0
+    while status < 0 or (outputs and time.monotonic() < until):
+        if time.monotonic() - beaten >= BEAT:
+            send(line, b"B", b"")
+            beaten = time.monotonic()
+        ready, _, _ = select.select(list(outputs), [], [], BEAT / 10)
         for descriptor in ready:
             data = os.read(descriptor, PART)
             if data:
-                send(self._line, self._outputs[descriptor], data)
+                send(line, outputs[descriptor], data)
             else:
-                del self._outputs[descriptor]
-        return bool(ready)
+                del outputs[descriptor]
+        if status < 0:
+            status, until = reap(child.pid), time.monotonic() + GRACE
+    return status
 
-    def reap(self) -> None:
-        """Takes the statuses of all processes that have ended, as the first process has to."""
-        while True:
-            try:
-                number, status = os.waitpid(-1, os.WNOHANG)
-            except ChildProcessError:
-                return
-            if not number:
-                return
-            if number == self._child:
-                code = os.waitstatus_to_exitcode(status)
-                self.status = code if code >= 0 else BY_SIGNAL - code
 
-    def follow(self) -> int:
-        """Returns the command's status once it has ended."""
-        beaten = 0.0
-        while self.status < 0:
-            if time.monotonic() - beaten >= BEAT:
-                send(self._line, b"B", b"")
-                beaten = time.monotonic()
-            self.pass_on(BEAT / 10)
-            self.reap()
-        until = time.monotonic() + GRACE
-        while self._outputs and time.monotonic() < until:
-            self.pass_on(BEAT / 10)
-        return self.status
+def run_command(line: int, plan: dict[str, Any]) -> int:
+    """Runs the command, and returns its status, as a shell has it."""
+    words: list[str] = plan["command"]
+    try:
+        child = subprocess.Popen(words, cwd=plan["folder"], env={**WORDS, **plan["environment"]}, stdin=subprocess.DEVNULL,
+                                 stdout=subprocess.PIPE, stderr=subprocess.PIPE, start_new_session=True)
+    except OSError as error:
+        send(line, b"E", f"{words[0]}: {error.strerror}\n".encode("utf-8", "backslashreplace"))
+        return NOT_FOUND if isinstance(error, FileNotFoundError) else NOT_STARTED
+    with child:
+        return follow(line, child)
 
 
 def run(line: int) -> None:
     """Carries out the plan."""
     with open(PLAN, encoding="utf-8") as file:
         plan: dict[str, Any] = json.load(file)
-    problem = mount_groups(plan["cgroup"])
+    if plan["cgroup"] == 2:
+        problem = mount("cgroup2", "/sys/fs/cgroup")
+    else:
+        problem = mount("tmpfs", "/sys/fs/cgroup") or mount("cgroup", "/sys/fs/cgroup/memory", "memory")
+        mount("cgroup", "/sys/fs/cgroup/freezer", "freezer")
     if problem:
         send(line, b"L", f"memory control groups of version {plan['cgroup']}: {problem}".encode())
         return
     send(line, b"R", os.uname().release.encode())
-    (out, out_end), (problems, problems_end) = os.pipe(), os.pipe()
-    child = start(plan, out_end, problems_end)
-    os.close(out_end)
-    os.close(problems_end)
-    status = Follower(line, child, {out: b"O", problems: b"E"}).follow()
-    send(line, b"S", str(status).encode())
+    send(line, b"S", str(run_command(line, plan)).encode())
 
 
 def main() -> NoReturn:
@@ -151,7 +120,9 @@ def main() -> NoReturn:
         mount(kind, place)
     os.chmod("/run", 0o755)
     try:
-        run(open_line())
+        line = os.open(LINE, os.O_RDWR | os.O_NOCTTY)
+        tty.setraw(line, termios.TCSANOW)  # bytes go as they are
+        run(line)
     except Exception:
         traceback.print_exc()
     sys.stderr.flush()

@@ -3,7 +3,6 @@
 from __future__ import annotations
 
 import os
-from dataclasses import dataclass
 from pathlib import Path
 
 from ..common.errors import InputFault
@@ -14,14 +13,6 @@ from .packages import MOST_IMAGE, PACKAGE, PackageLists, extract_image
 IN_FOLDER = ("arch/x86/boot/bzImage", "arch/x86_64/boot/bzImage", "bzImage", "vmlinuz", "boot/vmlinuz-*",
              "usr/lib/modules/*/vmlinuz", "lib/modules/*/vmlinuz", "vmlinuz-*")
 _MAGIC_AT, _MAGIC = 0x202, b"HdrS"  # Documentation/arch/x86/boot.rst
-
-
-@dataclass(frozen=True)
-class Kernel:
-    """A kernel's name, as it is reported, and its image."""
-
-    name: str
-    image: bytes
 
 
 def image_in_folder(folder: str) -> str:
@@ -35,23 +26,16 @@ def image_in_folder(folder: str) -> str:
     raise InputFault(f"{escape(folder)} has no kernel image ({', '.join(IN_FOLDER[:2])}, ..)")
 
 
-def find_kernel(text: str, suite: str | None) -> Kernel:
-    """Returns the kernel of a path or package name. InputFault where it is none, Unavailable where a package can't be
-    had."""
-    if os.path.isdir(text):
-        path = image_in_folder(text)
-    elif os.path.lexists(text) or "/" in text:
-        path = text
+def find_kernel(text: str, suite: str | None) -> tuple[str, bytes]:
+    """Returns the kernel of a path or package name: its name, as it is reported, and its image. InputFault where it is none, or
+    none for x86; Unavailable where a package can't be had."""
+    path = image_in_folder(text) if os.path.isdir(text) else text
+    if os.path.lexists(path) or "/" in path:
+        image = extract_image(path) if path.endswith(".deb") and os.path.isfile(path) else read_input(path, MOST_IMAGE)
     elif PACKAGE.fullmatch(text):
-        return checked_kernel(text, PackageLists(suite).image(text))
+        image = PackageLists(suite).image(text)
     else:
         raise InputFault(f"{escape(text)} is no file, no folder and no name of a kernel's package (linux-image-..)")
-    image = extract_image(path) if path.endswith(".deb") and os.path.isfile(path) else read_input(path, MOST_IMAGE)
-    return checked_kernel(path, image)
-
-
-def checked_kernel(name: str, image: bytes) -> Kernel:
-    """Returns the kernel of an image. InputFault where the image isn't one of x86."""
     if image[_MAGIC_AT : _MAGIC_AT + len(_MAGIC)] != _MAGIC:
-        raise InputFault(f"{escape(name)} has no kernel image for x86 (bzImage)")
-    return Kernel(escape(name), image)
+        raise InputFault(f"{escape(path)} has no kernel image for x86 (bzImage)")
+    return escape(path), image

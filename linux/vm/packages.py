@@ -13,8 +13,8 @@ import subprocess
 import sys
 import tempfile
 import time
+from collections.abc import Callable, Sequence
 from pathlib import Path
-from typing import Callable, Sequence
 
 from ..common.errors import RunFailed, Unavailable
 from ..common.keeper import open_folder
@@ -73,8 +73,8 @@ class PackageLists:
     def __init__(self, suite: str | None) -> None:
         self._folder = open_cache() / "kernels"
         open_folder(str(self._folder))
-        self._suite = suite
-        self._options: list[str] = ["-o", "APT::Sandbox::User=root"] if os.geteuid() == 0 else []
+        self._where = f"suite {suite}" if suite else "the machine's lists (--suite names others)"
+        self._words = ["apt-get", "-qq", *(["-o", "APT::Sandbox::User=root"] if os.geteuid() == 0 else [])]
         if suite:
             self._use_suite(suite)
 
@@ -84,29 +84,27 @@ class PackageLists:
         place = self._folder / f"lists-{suite}"
         for folder in ("lists/partial", "cache/archives/partial"):
             (place / folder).mkdir(parents=True, exist_ok=True)
-        sources = place / "sources.list"
+        sources, fetched = place / "sources.list", place / "fetched"
         sources.write_text(f"deb [signed-by={KEYS}] {MIRROR} {suite} main\n")
         for name, value in (("Etc::sourcelist", sources), ("Etc::sourceparts", "-"), ("State::lists", place / "lists"),
                             ("Cache", place / "cache"), ("State::status", "/dev/null")):
-            self._options += ["-o", f"Dir::{name}={value}"]
-        fetched = place / "fetched"
+            self._words += ["-o", f"Dir::{name}={value}"]
         if not fetched.exists() or time.time() - fetched.stat().st_mtime > AGE:
-            done = call(["apt-get", *self._options, "-qq", "update"])
+            done = call([*self._words, "update"])
             if done.returncode or b"\nW: Failed" in b"\n" + done.stderr:
                 raise Unavailable(f"the lists of {suite} can't be fetched: {reason_of(done)}")
             fetched.touch()
 
     def _stem(self, name: str) -> str:
         """Returns the name and version of a package's file, without its ending."""
-        done = call(["apt-get", *self._options, "-qq", "--print-uris", "download", name])
+        done = call([*self._words, "--print-uris", "download", name])
         found = _URI.search(done.stdout.decode("utf-8", "replace"))
         if found:
             return found[1]
         stored = sorted(self._folder.glob(f"{name}_*.vmlinuz"), key=lambda path: path.stat().st_mtime)
         if stored:
             return stored[-1].name.removesuffix(".vmlinuz")
-        where = f"suite {self._suite}" if self._suite else "the machine's lists (--suite names others)"
-        raise Unavailable(f"no package {escape(name)} in {where}: {reason_of(done)}")
+        raise Unavailable(f"no package {escape(name)} in {self._where}: {reason_of(done)}")
 
     def image(self, name: str) -> bytes:
         """Returns the kernel image of a package, or of the first package that it depends on and that has one."""
@@ -115,22 +113,18 @@ class PackageLists:
             if stored.exists():
                 return stored.read_bytes()
             with tempfile.TemporaryDirectory(dir=self._folder) as folder:
-                package = self._download(name, folder)
-                image = extract_image(package)
+                done = call([*self._words, "download", name], folder)
+                found = sorted(map(str, Path(folder).glob("*.deb")))
+                if done.returncode or not found:
+                    raise Unavailable(f"package {escape(name)} can't be downloaded: {reason_of(done)}")
+                image = extract_image(found[0])
                 if image:
                     part = Path(folder) / "image"
                     part.write_bytes(image)
                     os.replace(part, stored)
                     return image
-                name = next_package(package)
+                name = next_package(found[0])
         raise Unavailable(f"package {escape(name)} leads to no kernel image")
-
-    def _download(self, name: str, folder: str) -> str:
-        done = call(["apt-get", *self._options, "-qq", "download", name], folder)
-        found = sorted(Path(folder).glob("*.deb"))
-        if done.returncode or not found:
-            raise Unavailable(f"package {escape(name)} can't be downloaded: {reason_of(done)}")
-        return str(found[0])
 
 
 def next_package(package: str) -> str:

@@ -7,17 +7,17 @@ with this tool (PR_SET_PDEATHSIG).
 
 from __future__ import annotations
 
+import argparse
 import ctypes
 import os
 import shutil
 import signal
 import socket
 import subprocess
-from dataclasses import dataclass
 
 from ..common.errors import Unavailable
 from ..common.program import ENVIRONMENT
-from ..common.user import User, give_up_rights, user_without_rights
+from ..common.user import give_up_rights, user_without_rights
 
 QEMU = "qemu-system-x86_64"
 KVM_DEVICE = "/dev/kvm"
@@ -28,22 +28,15 @@ SANDBOX = "on,obsolete=deny,elevateprivileges=deny,spawn=deny,resourcecontrol=de
 _LIBC = ctypes.CDLL(None)
 
 
-@dataclass(frozen=True)
-class Shape:
-    """A machine: memory in MiB, NUMA nodes, processors."""
-
-    memory: int
-    nodes: int
-    processors: int
-
-    def words(self) -> list[str]:
-        """Returns qemu's words for it."""
-        out = ["-smp", str(self.processors), "-m", f"{self.memory // self.nodes * self.nodes}M"]
-        for node in range(self.nodes):
-            processors = "".join(f",cpus={number}" for number in range(node, self.processors, self.nodes))
-            out += ["-object", f"memory-backend-ram,id=memory{node},size={self.memory // self.nodes}M",
-                    "-numa", f"node,nodeid={node},memdev=memory{node}{processors}"]
-        return out
+def words_of(shape: argparse.Namespace) -> list[str]:
+    """Returns qemu's words for a machine: memory in MiB, NUMA nodes, processors (options.py)."""
+    memory = shape.memory // shape.numa
+    out = ["-smp", str(shape.processors), "-m", f"{memory * shape.numa}M"]
+    for node in range(shape.numa):
+        processors = "".join(f",cpus={number}" for number in range(node, shape.processors, shape.numa))
+        out += ["-object", f"memory-backend-ram,id=memory{node},size={memory}M",
+                "-numa", f"node,nodeid={node},memdev=memory{node}{processors}"]
+    return out
 
 
 def find_qemu() -> str:
@@ -54,19 +47,10 @@ def find_qemu() -> str:
     return found
 
 
-def groups_for_kvm() -> list[int]:
-    """Returns the group that may use KVM, for a user without rights; none where that is root's."""
-    try:
-        group = os.stat(KVM_DEVICE).st_gid
-    except OSError:
-        return []
-    return [group] if group else []
-
-
 def memory_file(name: str, data: bytes) -> int:
     """Returns the descriptor of a file without a name."""
     descriptor = os.memfd_create(name, os.MFD_CLOEXEC)
-    with open(os.dup(descriptor), "wb") as file:
+    with open(descriptor, "wb", closefd=False) as file:
         file.write(data)
     return descriptor
 
@@ -78,32 +62,28 @@ def end_with_parent() -> None:
 
 
 class VirtualMachine:
-    """A running qemu, with the host's ends of its console and of its second serial line."""
+    """A running qemu, with the host's ends of its console and of its second serial line. The options are those of options.py."""
 
-    def __init__(self, shape: Shape, kernel: int, files: int, with_kvm: bool, more: str) -> None:
+    def __init__(self, options: argparse.Namespace, kernel: int, files: int, with_kvm: bool) -> None:
         self.console, console = socket.socketpair()
         self.line, line = socket.socketpair()
-        passed = [kernel, files, console.fileno(), line.fileno()]
         words = [find_qemu(), "-no-user-config", "-nodefaults", "-no-reboot", "-display", "none", "-sandbox", SANDBOX]
         words += ["-accel", "kvm", "-cpu", "host"] if with_kvm else ["-accel", "tcg", "-cpu", "max"]
-        words += [*shape.words(), "-kernel", f"/proc/self/fd/{kernel}", "-initrd", f"/proc/self/fd/{files}"]
-        words += ["-append", f"{KERNEL_WORDS} {more}".strip()]
+        words += [*words_of(options), "-kernel", f"/proc/self/fd/{kernel}", "-initrd", f"/proc/self/fd/{files}"]
+        words += ["-append", f"{KERNEL_WORDS} {options.append}".strip()]
         for name, end in (("console", console), ("line", line)):
             words += ["-chardev", f"socket,id={name},fd={end.fileno()}", "-device", f"isa-serial,chardev={name}"]
+        rights = user_without_rights().rights()
+        if rights and with_kvm and os.path.exists(KVM_DEVICE):  # the group that may use it, unless that is root's
+            rights["extra_groups"] = [group for group in (os.stat(KVM_DEVICE).st_gid,) if group]
         with console, line:
-            self._process = self._start(words, passed, user_without_rights(), with_kvm)
-
-    @staticmethod
-    def _start(words: list[str], passed: list[int], user: User, with_kvm: bool) -> subprocess.Popen[bytes]:
-        rights = user.rights()
-        if rights and with_kvm:
-            rights["extra_groups"] = groups_for_kvm()
-        try:
-            return subprocess.Popen(words, stdin=subprocess.DEVNULL, stdout=subprocess.DEVNULL, stderr=subprocess.PIPE, cwd="/",
-                                    pass_fds=passed, env=ENVIRONMENT, start_new_session=True, preexec_fn=end_with_parent,
-                                    **rights)
-        except OSError as error:
-            raise Unavailable(f"{words[0]} can't be run: {error.strerror}") from error
+            try:
+                self._process = subprocess.Popen(
+                    words, stdin=subprocess.DEVNULL, stdout=subprocess.DEVNULL, stderr=subprocess.PIPE, cwd="/", env=ENVIRONMENT,
+                    pass_fds=[kernel, files, console.fileno(), line.fileno()], start_new_session=True,
+                    preexec_fn=end_with_parent, **rights)
+            except OSError as error:
+                raise Unavailable(f"{words[0]} can't be run: {error.strerror}") from error
 
     @property
     def problems(self) -> int:
