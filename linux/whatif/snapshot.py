@@ -5,14 +5,13 @@ from __future__ import annotations
 import re
 from collections import Counter
 from dataclasses import dataclass, field
-from typing import Any, Mapping
+from typing import Mapping
 
 from ..common.files import BASE, PMD_ORDER
 from ..common.folios import Folio
 from .rows import Moved, label
 
 NAME = "thpwhatif"
-VERSION = 2  # of what `Snapshot.to_json` makes
 
 
 @dataclass
@@ -56,18 +55,6 @@ class Snapshot:
         deferred_split_scan)."""
         found = re.match(r"Linux ([0-9]{1,4})\.([0-9]{1,4})", self.kernel)
         return found is not None and (int(found[1]), int(found[2])) < (6, 18)
-
-    def to_json(self) -> dict[str, Any]:
-        """Returns it as a JSON object, from which `stored.snapshot_of` makes the same snapshot."""
-        out = dict(vars(self), version=VERSION, sums=vars(self.sums))
-        out["folios"] = [folio.to_json() for folio in self.folios]
-        out["changed_pages"] = [pair_json(pair) for pair in self.changed_pages]
-        return out
-
-
-def pair_json(pair: tuple[Folio | None, Folio | None]) -> list[Any]:
-    """Returns both readings of a page as JSON; null where it was no huge page."""
-    return [folio and folio.to_json() for folio in pair]
 
 
 def list_notes(snapshot: Snapshot, moved: Mapping[int, Moved] | None = None) -> list[str]:

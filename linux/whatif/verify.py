@@ -45,6 +45,7 @@ from .processes import ProcessChoice
 from .reference import given_back
 from .look import LookOptions, SnapshotTaker
 from .snapshot import NAME, Snapshot
+from .stored import to_json
 
 THRESHOLDS = (OFF, 0, 1, 16, 32, 64, 128, 256, 409, 500, 510)
 SMALL_ORDERS = (4, 6)
@@ -404,7 +405,7 @@ def keep(folder: OwnFolder, name: str, threshold: int, result: Result) -> None:
     """Writes what was seen before and after a trial, so that it can be checked again: `seen`, a stored snapshot, and
     `returned`, the frames that came back by the page's first frame, as hexadecimal sets."""
     returned = {str(frame): format(given, "x") for frame, given in {**result.returned, **result.unscripted}.items()}
-    text = json.dumps({"threshold": threshold, "came": returned, "seen": result.snapshot.to_json()})
+    text = json.dumps({"threshold": threshold, "came": returned, "seen": to_json(result.snapshot)})
     try:
         with folder.create(f"{name}.json") as file:
             file.write(text + "\n")

@@ -27,7 +27,7 @@ from ...common.workers import load_library
 from .. import program
 from ..outputs import open_output
 from ..page_plan import NotPredictable, plan_page
-from ..stored import StoredReader, fields_of, json_parts, snapshot_of, value_of
+from ..stored import StoredReader, from_json, json_parts, value_of
 
 STORED = Path(__file__).resolve().parent / "stored"
 COMPILER = shutil.which(os.environ.get("CC", "cc")) or shutil.which("gcc")
@@ -170,11 +170,11 @@ class Stored(unittest.TestCase):
 
     def refused(self, text: str) -> None:
         with self.assertRaises(ValueError) as raised:
-            snapshot_of(fields_of(value_of(text)))
+            from_json(value_of(text))
         self.assertNotIn("\n", str(raised.exception))
 
     def test_fields_of_a_page(self) -> None:
-        snapshot_of(fields_of(good()))
+        from_json(good())
         for field, values in {
             "order": (70, 1, -1, 9.0, "9", None, True, 10**30),
             "frame": (-1, "x", None, 1 << 60, 1.5),
@@ -225,7 +225,7 @@ class Stored(unittest.TestCase):
 
     def test_any_change(self) -> None:
         chance = random.Random(8)
-        text = "".join(json_parts(snapshot_of(fields_of(good()))))
+        text = "".join(json_parts(from_json(good())))
         with tempfile.TemporaryDirectory() as folder:
             for _ in range(300):
                 changed = list(text)

@@ -20,7 +20,7 @@ from ..predictor import Library, Predictor, load_library
 from ..reference import given_back
 from ..rows import OFF, find_highest
 from ..snapshot import Snapshot
-from ..stored import fields_of, snapshot_of
+from ..stored import from_json
 from .own_library import compile_library, lacking
 from .sample_folios import any_folio, folio, holed_folio
 
@@ -266,7 +266,7 @@ class Trials(unittest.TestCase):
         for path in files:
             stored = json.loads(path.read_text(encoding="ascii"))
             came = {int(frame): int(given, 16) for frame, given in stored["came"].items()}
-            snapshot, threshold = snapshot_of(fields_of(stored["seen"])), stored["threshold"]
+            snapshot, threshold = from_json(stored["seen"]), stored["threshold"]
             predicted = [one for one in snapshot.folios if is_predictable(one)]
             own = {one.frame: came[one.frame] for one in predicted if one.frame in came}
             self.assertEqual(plain(predicted, threshold), own, path.name)
