@@ -3,7 +3,6 @@
 from __future__ import annotations
 
 import os
-import sys
 import time
 from dataclasses import dataclass
 from functools import partial
@@ -16,13 +15,12 @@ from ..common.folios import Folio
 from ..common.groups import find_hierarchy
 from ..common.kernel_memory import KernelMemory
 from ..common.machine import namespace_note
-from ..common.proc import group_names, machine_huge, name_of
+from ..common.proc import group_names, machine_huge, missing_capabilities, name_of
 from ..common.reader import FREED, HIDDEN, MEMORY, Reader
 from ..common.second_look import Changes, SecondLook
 from ..common.text import escape
 from .processes import ProcessChoice
 from .queues import Queues, keep_lasting_pins
-from .rights import demand_reading
 from .snapshot import Snapshot, Sums
 
 
@@ -65,8 +63,8 @@ class SnapshotTaker:
         reader = Reader(self._kernel, self.how.with_small, self.how.threads, self._progress, self.how.memory)
         try:
             reader.read_processes(choice.find(reader.unread))
-            for process in sorted(reader.denied):
-                demand_reading(process)
+            if reader.denied and missing_capabilities("CAP_SYS_PTRACE"):
+                raise Unavailable(f"process {min(reader.denied)} can't be read: CAP_SYS_PTRACE is missing")
             page = BASE << PMD_ORDER
             sums = Sums(by_pmd=reader.by_pmd * page)
             changes, places = self._read_pages(reader)
@@ -150,8 +148,3 @@ def names_of_groups(wanted: set[int]) -> dict[int, str]:
         return group_names(find_hierarchy().mount, wanted)
     except Unavailable:
         return {}
-
-
-def show_progress(what: str, done: int, of: int) -> None:
-    """Prints a line on a terminal, over the one before; see `Progress`."""
-    print(f"\r{what}: {done} of {of}\033[K", end="\n" if done == of else "", file=sys.stderr, flush=True)

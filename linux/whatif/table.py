@@ -47,9 +47,8 @@ def process_table(shares: dict[int, dict[int, Share]], names: dict[int, str]) ->
     lines: list[list[object]] = [["process", "name", "pages", *(label(threshold) for threshold in shares)]]
     first: dict[int, Share] = next(iter(shares.values()), {})
     for process in sorted(first, key=lambda number: (-first[number].pages, number)):
-        frames = [each[process].frames if process in each else 0 for each in shares.values()]
-        cells = [f"{count / FRAMES_A_MEBIBYTE:.1f}" for count in frames]
-        lines.append([str(process), names.get(process, "?"), first[process].pages, *cells])
+        cells = [f"{each.get(process, Share()).mebibytes:.1f}" for each in shares.values()]
+        lines.append([process, names.get(process, "?"), first[process].pages, *cells])
     return "MiB back by process (a shared page counts once):\n" + aligned(lines, 2)
 
 
@@ -58,8 +57,7 @@ def cost_table(shares: dict[int, Share], names: dict[int, str]) -> str:
     lines: list[list[object]] = [["process", "name", "huge mappings lost", "pages split", "MiB back"]]
     for process, share in sorted(shares.items(), key=lambda item: (-item[1].lost, item[0])):
         if share.lost or share.split:
-            back = f"{share.frames / FRAMES_A_MEBIBYTE:.1f}"
-            lines.append([str(process), names.get(process, "?"), share.lost, share.split, back])
+            lines.append([process, names.get(process, "?"), share.lost, share.split, f"{share.mebibytes:.1f}"])
     return aligned(lines, 2)
 
 
@@ -86,13 +84,16 @@ def row_json(row: Row, today: int | None) -> dict[str, Any]:
     }
 
 
-def share_json(process: int, name: str, share: Share) -> dict[str, Any]:
-    """Returns a process's share as a JSON object."""
-    return {
-        "process": process,
-        "name": name,
-        "pages": share.pages,
-        "split": share.split,
-        "frames_back": share.frames,
-        "huge_mappings_lost": share.lost,
-    }
+def shares_json(shares: dict[int, Share], names: dict[int, str]) -> list[dict[str, Any]]:
+    """Returns the shares of processes as JSON."""
+    return [
+        {
+            "process": process,
+            "name": names.get(process, "?"),
+            "pages": share.pages,
+            "split": share.split,
+            "frames_back": share.frames,
+            "huge_mappings_lost": share.lost,
+        }
+        for process, share in sorted(shares.items())
+    ]

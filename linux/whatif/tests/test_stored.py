@@ -41,7 +41,7 @@ def tables(snapshot: Snapshot) -> dict[str, str]:
     """All texts that need libthp, by the ends of their files' names."""
     predictor, today = Predictor(snapshot), snapshot.today
     thresholds = with_today(DEFAULT, today)
-    rows, shares = predictor.run(thresholds), predictor.shares(thresholds)
+    rows, shares = predictor.run(thresholds), {each: predictor.by_process(each) for each in thresholds}
     parts = [*list_notes(snapshot), table(rows, today), process_table(shares, snapshot.processes)]
     parts += [group_table(predictor.by_group(thresholds)), cost_table(shares[0], snapshot.processes)]
     parts.append(last_line(snapshot.left_out))
