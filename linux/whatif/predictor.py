@@ -5,7 +5,7 @@ from __future__ import annotations
 import ctypes
 import os
 from array import array
-from collections import Counter
+from collections import Counter, defaultdict
 from concurrent.futures import ThreadPoolExecutor
 from contextlib import suppress
 from functools import lru_cache
@@ -13,8 +13,8 @@ from typing import Iterable, Mapping, Sequence
 
 from ..common.errors import RunFailed, Unavailable
 from ..common.folios import Folio
+from ..common.helpers import helper
 from ..common.text import escape
-from .libthp import helper_with_libthp
 from .page_plan import SET, NotPredictable, plan_page
 from .rows import OFF, Moved, Row, Share, label
 from .snapshot import Snapshot
@@ -50,6 +50,14 @@ class Library:
         return fates.raw, given.raw if given else b""
 
 
+def helper_with_libthp(name: str) -> str:
+    """Returns the path of a helper that is linked with libthp. Unavailable where it isn't built."""
+    try:
+        return helper(name)
+    except Unavailable as error:
+        raise Unavailable(f"no libthp (a release has it; in a checkout: make c, then make -C linux): {error}") from error
+
+
 @lru_cache(maxsize=None)
 def load_library() -> Library:
     """Returns the library, loaded once. Unavailable where it can't be."""
@@ -80,7 +88,7 @@ class Predictor:
                     continue
                 self.folios.append(folio)
                 self.plans.append(number)
-                name = name_of(snapshot.names, folio.cgroup)
+                name = snapshot.names.get(folio.cgroup, f"inode {folio.cgroup}" if folio.cgroup else "none")
                 self._groups.setdefault(name, Counter())[number] += 1
 
     @property
@@ -144,19 +152,16 @@ class Predictor:
         entries, the lowest number where that is equal; lost PMD mappings count with each."""
         self._run([threshold])
         if not self._owners:
-            self._owners.update((number, tuple(owners_of(folio).items())) for folio, number in zip(self.folios, self.plans))
-        out: dict[int, Share] = {}
-        for (number, by), count in self._owners.items():
-            if not by:
-                continue
-            outcome, frames = self._fates[threshold][2 * number : 2 * number + 2]
-            share = out.setdefault(owner(dict(by)), Share())
-            share.pages += count
-            if outcome & SPLIT:
-                share.split += count
-                share.frames += count * frames
-                for process, lost in by:
-                    out.setdefault(process, Share()).lost += count * lost
+            self._owners.update((number, owners_of(folio)) for folio, number in zip(self.folios, self.plans))
+        out: dict[int, Share] = defaultdict(Share)
+        for (number, owners), count in self._owners.items():
+            frames = self.frames_back(threshold, number)
+            for process, _ in owners[:1]:
+                out[process].pages += count
+                out[process].split += count if frames is not None else 0
+                out[process].frames += count * (frames or 0)
+            for process, lost in owners if frames is not None else ():
+                out[process].lost += count * lost
         return out
 
     def frames_given(self, threshold: int) -> dict[int, int]:
@@ -208,19 +213,9 @@ class Predictor:
         return low if gives(low) else None
 
 
-def name_of(names: Mapping[int, str], cgroup: int) -> str:
-    """Returns the name of a control group by its inode."""
-    return names.get(cgroup, f"inode {cgroup}" if cgroup else "none")
-
-
-def owners_of(folio: Folio) -> dict[int, int]:
-    """Returns the processes that map a page, with how many PMD mappings each has of it."""
-    by: dict[int, int] = {}
+def owners_of(folio: Folio) -> tuple[tuple[int, int], ...]:
+    """Returns the processes that map a page, with how many PMD mappings each has of it. The page counts with the first one."""
+    by: Counter[int] = Counter()
     for mapping in folio.mappings:
-        by[mapping.process] = by.get(mapping.process, 0) + mapping.by_pmd
-    return by
-
-
-def owner(by: Mapping[int, int]) -> int:
-    """Returns the process with which a page counts, of those that map it, with the PMD mappings of each."""
-    return min(by, key=lambda process: (-by[process], process))
+        by[mapping.process] += mapping.by_pmd
+    return tuple(sorted(by.items(), key=lambda item: (-item[1], item[0])))

@@ -7,7 +7,7 @@ import json
 import os
 import sys
 import time
-from typing import TYPE_CHECKING, Callable, NoReturn, Sequence
+from typing import Callable, NoReturn, Sequence
 
 from ..common.errors import DIFFERS, DONE, InputFault, Unavailable
 from ..common.tool import run_tool
@@ -20,9 +20,6 @@ from .report import Report, report_of
 from .rows import OFF, label
 from .snapshot import NAME, Snapshot, list_notes
 from .table import FRAMES_A_MEBIBYTE, cost_table, group_table, last_line, process_table, row_json, shares_json, table
-
-if TYPE_CHECKING:
-    from .policies import Outcome as PolicyOutcome
 
 SLOW = 1.0  # seconds after which progress is shown
 
@@ -178,7 +175,7 @@ def command_policies(options: argparse.Namespace) -> int:
     """Tries policies on journals."""
     from ..common.checker import find_checker
     from .picture import policies_picture
-    from .policies import IllegalJournal, best_of, policies_of, policy_table, read_recording, try_policies
+    from .policies import IllegalJournal, best_line, best_of, policies_of, policy_table, read_recording, try_policies
 
     policies = policies_of(options.threshold, options.scan, options.take)
     times: Sequence[str | None] = options.times or [None] * len(options.journals)
@@ -210,14 +207,6 @@ def command_policies(options: argparse.Namespace) -> int:
     if options.best:
         print(best_line(best, options.best))
     return DONE
-
-
-def best_line(best: PolicyOutcome | None, mebibytes: float) -> str:
-    """Returns which policy is the best."""
-    if best is None:
-        return f"no policy holds at most {mebibytes:g} MiB"
-    policy, peak = best.policy, best.peak_mebibytes
-    return f"best: threshold {policy.threshold}, scans {policy.scans}: {best.split} pages split, at most {peak:.1f} MiB"
 
 
 COMMANDS: dict[str, Callable[[argparse.Namespace], int]] = {

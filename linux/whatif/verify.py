@@ -105,15 +105,24 @@ class Result:
         return all(0 <= self.added[name] - count <= len(self.unscripted) for name, count in self.statistics().items())
 
     @property
-    def outcome(self) -> Outcome:
-        """Exact: each page and each frame as predicted, and the counters too."""
+    def verdict(self) -> tuple[Outcome, str]:
+        """The outcome, and in words. Exact: each page and each frame as predicted, and the counters too."""
         if self.problem:
-            return Outcome.INCONCLUSIVE
-        if self.differing or any(self.added[name] < count for name, count in self.statistics().items()):
-            return Outcome.DIFFERS  # others only add to the counters
-        if self.moved or not self.is_undisturbed:
-            return Outcome.INCONCLUSIVE
-        return Outcome.EXACT if self.are_counters_right else Outcome.DIFFERS
+            return Outcome.INCONCLUSIVE, f"inconclusive: not held still the whole time: {escape(self.problem)}"
+        if self.differing:
+            return Outcome.DIFFERS, f"{len(self.differing)} pages DIFFER"
+        if any(self.added[name] < count for name, count in self.statistics().items()):  # others only add to the counters
+            return Outcome.DIFFERS, "the counters DIFFER"
+        if self.moved:
+            return Outcome.INCONCLUSIVE, f"inconclusive: {self.moved} pages were moved by others"
+        if not self.is_undisturbed:
+            return Outcome.INCONCLUSIVE, Outcome.INCONCLUSIVE.value
+        return (Outcome.EXACT, "exact") if self.are_counters_right else (Outcome.DIFFERS, "the counters DIFFER")
+
+    @property
+    def outcome(self) -> Outcome:
+        """The outcome alone."""
+        return self.verdict[0]
 
 
 class Bench:
@@ -303,24 +312,13 @@ def count_result(sums: Counter[str], result: Result) -> None:
     sums["pages found changed between two looks"] += result.snapshot.changed
 
 
-def verdict_of(result: Result) -> str:
-    """Returns the outcome in words."""
-    if result.problem:
-        return f"inconclusive: not held still the whole time: {escape(result.problem)}"
-    if result.differing:
-        return f"{len(result.differing)} pages DIFFER"
-    if result.moved:
-        return f"inconclusive: {result.moved} pages were moved by others"
-    return "the counters DIFFER" if result.outcome is Outcome.DIFFERS else str(result.outcome.value)
-
-
 def trial_line(threshold: int, result: Result) -> str:
     """Returns one line of a trial."""
     counted = ", ".join(f"{name.value} {result.added[name]} of {count}" for name, count in result.statistics().items())
     return (
         f"{label(threshold):>4}: {len(result.folios)} pages; split {len(result.returned)} of {len(result.predicted)} predicted; "
         f"frames {count_subpages(result.returned)} of {count_subpages(result.predicted)} predicted; {counted}, "
-        f"{Statistic.SPLIT_FAILED.value} {result.added[Statistic.SPLIT_FAILED]}: {verdict_of(result)}"
+        f"{Statistic.SPLIT_FAILED.value} {result.added[Statistic.SPLIT_FAILED]}: {result.verdict[1]}"
     )
 
 
