@@ -15,38 +15,35 @@ EDGES = (0, 1, 2, 15, 16, 17, 31, 32, 33, 63, 64, 65, 127, 128, 129, 200, 255, 2
 FULL = (499, 500, 501, 509, 510, 511, 512)
 
 
-class KnownPages:
-    """The helper known.c, which makes huge pages on command."""
+def send(known: subprocess.Popen[str], lines: Sequence[str]) -> None:
+    """Sends lines to the helper known.c, which makes huge pages on command, and waits until they are done, or failed."""
+    assert known.stdin and known.stdout
+    try:
+        known.stdin.write("".join(line + "\n" for line in lines) + "sync\n")
+        known.stdin.flush()
+        answer = known.stdout.readline()
+    except OSError as error:
+        raise Unavailable(f"the helper that makes known pages ended: {error.strerror}") from error
+    if answer != "done\n":
+        raise Unavailable("the helper that makes known pages ended")
 
-    def __init__(self, process: subprocess.Popen[str]) -> None:
-        self.process = process
 
-    def send(self, lines: Sequence[str]) -> None:
-        """Sends lines and waits until they are done, or failed."""
-        assert self.process.stdin and self.process.stdout
-        try:
-            self.process.stdin.write("".join(line + "\n" for line in lines) + "sync\n")
-            self.process.stdin.flush()
-            answer = self.process.stdout.readline()
-        except OSError as error:
-            raise Unavailable(f"the helper that makes known pages ended: {error.strerror}") from error
-        if answer != "done\n":
-            raise Unavailable("the helper that makes known pages ended")
+def make_pages(known: subprocess.Popen[str], chance: random.Random, count: int, orders: Sequence[int], look: Callable[[], None]) -> None:
+    """Has the helper make `count` pages of these orders. `look` has the shrinker look at those that are there, so that they
+    leave the queue or are split; it is called at most once."""
+    until = chance.choice((0, count // 3))
+    for number in range(count):
+        if number and number == until:
+            look()
+        send(known, page_lines(chance, number, chance.choice(orders)))
 
-    def make(self, chance: random.Random, count: int, orders: Sequence[int], look: Callable[[], None]) -> None:
-        """Makes `count` pages of these orders. `look` has the shrinker look at those that are there, so that they
-        leave the queue or are split; it is called at most once."""
-        until = chance.choice((0, count // 3))
-        for number in range(count):
-            if number and number == until:
-                look()
-            self.send(page_lines(chance, number, chance.choice(orders)))
 
-    def change(self, micros: int, seed: int) -> None:
-        """Has the helper change its pages for ever. It accepts no further command."""
-        assert self.process.stdin
-        self.process.stdin.write(f"change {micros} {seed}\n")
-        self.process.stdin.flush()
+def change_pages(known: subprocess.Popen[str], count: int, micros: int, seed: int) -> None:
+    """Has the helper make `count` pages and change them for ever. It accepts no further command."""
+    assert known.stdin
+    send(known, [f"alloc {PMD_ORDER}"] * count)
+    known.stdin.write(f"change {micros} {seed}\n")
+    known.stdin.flush()
 
 
 def page_lines(chance: random.Random, page: int, order: int) -> list[str]:

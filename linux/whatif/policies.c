@@ -96,6 +96,10 @@ static void demand(thp_code code) {
     if (code != THP_OK) fail(1, thp_strerror(code));
 }
 
+static uint64_t larger(uint64_t one, uint64_t other) {
+    return one > other ? one : other;
+}
+
 static thp_stats stats_of(struct run *run) {
     thp_stats stats;
     demand(thp_node_stats(&run->node, &stats));
@@ -108,28 +112,23 @@ static void weigh(struct run *run, double weight) {
     run->sums.weight += weight;
 }
 
-/* Joins pairs of columns. */
-static void halve(struct columns *columns) {
-    for (uint32_t i = 0; i < COLUMNS / 2; i++) {
-        uint64_t left = columns->most[2 * i], right = columns->most[2 * i + 1];
-        columns->most[i] = left > right ? left : right;
-    }
-    columns->count = COLUMNS / 2;
-    columns->width *= 2;
-}
-
 /* Notes what is held after an event. */
 static void note_held(struct run *run) {
     uint64_t held = stats_of(run).frames_held;
     struct columns *columns = &run->columns;
     if (columns->count == 0 || columns->in_last == columns->width) {
-        if (columns->count == COLUMNS) halve(columns);
+        if (columns->count == COLUMNS) {
+            for (uint32_t i = 0; i < COLUMNS; i += 2)
+                columns->most[i / 2] = larger(columns->most[i], columns->most[i + 1]);
+            columns->count = COLUMNS / 2;
+            columns->width *= 2;
+        }
         columns->most[columns->count++] = 0;
         columns->in_last = 0;
     }
     columns->in_last++;
-    if (held > columns->most[columns->count - 1]) columns->most[columns->count - 1] = held;
-    if (held > run->sums.peak) run->sums.peak = held;
+    columns->most[columns->count - 1] = larger(columns->most[columns->count - 1], held);
+    run->sums.peak = larger(run->sums.peak, held);
 }
 
 /* A scan of `n` pages, in batches of at most THP_MAX_BATCH. Returns how many it took, if it put all of them back, else 0. */

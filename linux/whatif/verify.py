@@ -39,7 +39,7 @@ from ..common.proc import members
 from ..common.subpages import size
 from ..common.text import escape
 from ..common.user import User
-from .known_pages import KnownPages
+from .known_pages import change_pages, make_pages
 from .page_plan import Reason
 from .predictor import Predictor
 from .rows import OFF, label
@@ -171,16 +171,14 @@ class Bench:
         task = self.task
         process = self._start(group, task.words) if task.words else self._start(group, [helper("known")], subprocess.PIPE)
         try:
-            known = KnownPages(process)
             if task.words:
                 self._wait(process, group)
             elif task.change:
-                known.send([f"alloc {PMD_ORDER}"] * task.pages)
-                known.change(task.change, chance.randrange(1 << 30))
+                change_pages(process, task.pages, task.change, chance.randrange(1 << 30))
                 time.sleep(CHANGE_TIME)
             else:
                 orders = [PMD_ORDER] * 8 + list(SMALL_ORDERS)
-                known.make(chance, task.pages, orders, lambda: self._look_before(group, threshold))
+                make_pages(process, chance, task.pages, orders, lambda: self._look_before(group, threshold))
             yield
         finally:
             self._end(process, group)

@@ -5,7 +5,6 @@ from __future__ import annotations
 import json
 import sys
 import time
-from dataclasses import dataclass
 from typing import Callable, Sequence, TextIO
 
 from .report import Report
@@ -15,22 +14,17 @@ from .table import aligned
 CLEAR = "\033[H\033[J"  # of a terminal
 
 
-@dataclass
 class Drift:
     """MiB back with one threshold, over all looks so far."""
 
-    first: float
-    now: float
-    least: float
-    greatest: float
-    total: float = 0.0
-    looks: int = 0
+    def __init__(self, first: float) -> None:
+        self.first = self.now = self.least = self.greatest = first
+        self.total, self.looks = 0.0, 0
 
     def add(self, value: float) -> None:
         """Adds a look."""
         self.now, self.least, self.greatest = value, min(self.least, value), max(self.greatest, value)
-        self.total += value
-        self.looks += 1
+        self.total, self.looks = self.total + value, self.looks + 1
 
 
 class Watch:
@@ -44,8 +38,7 @@ class Watch:
         """Adds the rows of one look."""
         self.looks += 1
         for row in rows:
-            value = row.mebibytes
-            self.drifts.setdefault(row.threshold, Drift(value, value, value, value)).add(value)
+            self.drifts.setdefault(row.threshold, Drift(row.mebibytes)).add(row.mebibytes)
 
     def table(self, today: int | None) -> str:
         """Returns a line for each threshold."""
