@@ -1,26 +1,64 @@
-"""Takes a look at the huge pages of processes."""
+"""Which processes are looked at, and a look at their huge pages."""
 
 from __future__ import annotations
 
 import os
 import time
-from dataclasses import dataclass
+from collections import Counter
+from dataclasses import dataclass, field
 from functools import partial
 
+from ..common import proc
 from ..common.contents import Progress
-from ..common.errors import Unavailable
+from ..common.errors import InputFault, Unavailable
 from ..common.files import BASE, PMD_ORDER, PTES_NONE, SWITCH, read
 from ..common.folios import Folio
-from ..common.groups import find_hierarchy
+from ..common.groups import checked_group, find_hierarchy
 from ..common.kernel_memory import KernelMemory
 from ..common.machine import namespace_note
-from ..common.proc import group_names, machine_huge, missing_capabilities, name_of
+from ..common.proc import group_names, is_own, machine_huge, members, missing_capabilities, name_of
 from ..common.reader import FREED, HIDDEN, MEMORY, Reader
 from ..common.second_look import Changes, SecondLook
 from ..common.text import escape
-from .processes import ProcessChoice
 from .queues import Queues, keep_lasting_pins
 from .snapshot import Snapshot, Sums
+
+
+@dataclass
+class ProcessChoice:
+    """The processes that a user selects: by number, by control groups with those below, or all."""
+
+    processes: list[int] = field(default_factory=list)
+    groups: list[str] = field(default_factory=list)
+    everything: bool = False
+
+    def describe(self) -> str:
+        """Returns it in words."""
+        words = [f"process {number}" for number in self.processes]
+        words += [f"control group {escape(path)}" for path in self.groups]
+        return ", ".join(words + (["all processes"] if self.everything else []))
+
+    def check(self) -> None:
+        """Resolves the control groups' paths. InputFault for a process or a control group that doesn't exist."""
+        for number in self.processes:
+            if not os.path.isdir(f"{proc.ROOT}/{number}"):
+                raise InputFault(f"no process {number}")
+        self.groups = [checked_group(path) for path in self.groups]
+
+    def find(self, unread: Counter[str]) -> set[int]:
+        """Returns the processes now, except this one where all are asked for. Control groups that can't be read are counted."""
+        out = set(self.processes)
+        for path in self.groups:
+            try:
+                out |= set(members(path))
+            except OSError as error:
+                if is_own(error):
+                    raise
+                unread[f"control group {escape(path)}: {error.strerror}"] += 1
+        if self.everything:
+            out |= set(proc.processes())
+            out.discard(os.getpid())
+        return out
 
 
 @dataclass(frozen=True)

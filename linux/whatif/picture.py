@@ -4,8 +4,8 @@ from __future__ import annotations
 
 from typing import TYPE_CHECKING, Sequence
 
+from .report import FRAMES_A_MEBIBYTE
 from .rows import Row, label
-from .table import FRAMES_A_MEBIBYTE
 
 if TYPE_CHECKING:
     from .policies import Outcome

@@ -31,10 +31,10 @@ enum { LINE = 8192, COLUMNS = 512 };
 struct sums {
     uint64_t scans;
     uint64_t split;   /* pages split */
-    uint64_t failed;  /* tries that found a pin */
+    uint64_t failed;  /* tries that found a pin; until the end those of scans that were skipped */
     uint64_t back;    /* frames that scans gave back */
     uint64_t peak;    /* the greatest number of frames held */
-    uint64_t huge;    /* live pages that aren't split */
+    uint64_t huge;    /* live pages that aren't split; until the end with those that were */
     uint64_t changed; /* calls that were done in another form */
     double held;      /* frames held, each by the weight of its time */
     double weight;    /* seconds */
@@ -138,9 +138,6 @@ static uint64_t scan(struct run *run, uint32_t caller, uint32_t n) {
     while (n) {
         uint32_t part = n < THP_MAX_BATCH ? n : THP_MAX_BATCH;
         demand(thp_node_scan(&run->node, caller, part, &done));
-        run->sums.split += done.split;
-        run->sums.failed += done.pinned;
-        run->sums.huge -= done.split;
         taken += done.taken;
         back += done.back;
         n = done.taken < part ? 0 : n - part;
@@ -154,12 +151,8 @@ static uint64_t scan(struct run *run, uint32_t caller, uint32_t n) {
 static void do_tries(struct run *run, uint32_t caller) {
     struct batch *batch = &run->batches[caller];
     uint64_t before = stats_of(run).frames_given;
-    for (thp_tried tried; batch->tried < batch->wanted; batch->tried++) {
+    for (thp_tried tried; batch->tried < batch->wanted; batch->tried++)
         demand(thp_node_split_next(&run->node, caller, &tried));
-        run->sums.split += tried.kind == THP_TRY_SPLIT;
-        run->sums.huge -= tried.kind == THP_TRY_SPLIT;
-        run->sums.failed += tried.kind == THP_TRY_PINNED;
-    }
     run->sums.back += stats_of(run).frames_given - before;
 }
 
@@ -201,11 +194,9 @@ static void end_batch(struct run *run, uint32_t caller) {
 /* How many pages a scan takes where the journal's took `recorded`; 0: the journal has none here. */
 static uint32_t count_of(struct run *run, uint32_t recorded) {
     const char *take = run->policy->take;
-    uint32_t queued;
     if (recorded && !strcmp(take, "recorded")) return recorded;
     if (strcmp(take, "recorded") && strcmp(take, "all")) return (uint32_t)strtoul(take, NULL, 10);
-    demand(thp_node_queue_length(&run->node, &queued));
-    return queued;
+    return (uint32_t)stats_of(run).queued;
 }
 
 /* Does the takes in a row that the journal had: by a batch that stays open, or as a scan where the policy changes how many are taken. */
@@ -266,8 +257,7 @@ static void skip_scans(struct run *run, double until, uint64_t taken, uint64_t q
 static void pass_time(struct run *run, double until) {
     uint64_t in_row = 0; /* pages that scans took and put back, one after the other, since anything else happened */
     while (!strcmp(run->policy->when, "seconds") && run->last_scan + run->policy->amount <= until) {
-        uint32_t queued;
-        demand(thp_node_queue_length(&run->node, &queued));
+        uint64_t queued = stats_of(run).queued;
         if (!queued) {
             run->last_scan += run->policy->amount * (double)scans_until(run, until);
             break;
@@ -295,16 +285,17 @@ static bool map_range(struct run *run, const struct event *event, uint32_t first
     return false;
 }
 
-/* Removes a PTE mapping of a range of a page that has PMD mappings here which the journal's page had no more. */
+/* Removes a PTE mapping of a range. The page may have PMD mappings here which the journal's page had no more. */
 static bool unmap_range(struct run *run, const struct event *event, const thp_page_state *page, thp_done *done) {
+    if (!page->whole_mapcount) return map_range(run, event, event->first, event->count, false, done);
     thp_code code = thp_node_unmap_sub(&run->node, event->caller, event->page, event->first, event->count, done);
     if (code == THP_OK) return true;
-    if (page->whole_mapcount && event->count == run->subpages) {
+    if (event->count == run->subpages) {
         demand(thp_node_unmap_whole(&run->node, event->caller, event->page, done));
-        return false;
+    } else {
+        demand(thp_node_split_pmd(&run->node, event->caller, event->page));
+        map_range(run, event, event->first, event->count, false, done);
     }
-    if (page->whole_mapcount) demand(thp_node_split_pmd(&run->node, event->caller, event->page));
-    map_range(run, event, event->first, event->count, false, done);
     return false;
 }
 
@@ -404,7 +395,11 @@ static void end(struct run *run) {
     end_takes(run);
     for (uint32_t caller = 0; caller < THP_MAX_CALLERS; caller++)
         if (run->batches[caller].is_open) do_tries(run, caller);
-    const struct sums *sums = &run->sums;
+    struct sums *sums = &run->sums;
+    thp_stats stats = stats_of(run);
+    sums->split = stats.split_page;
+    sums->huge -= stats.split_page;
+    sums->failed += stats.split_page_failed;
     printf("node %" PRIu64 " %" PRIu64 " %" PRIu64 " %" PRIu64 " %" PRIu64 " %" PRIu64 " %" PRIu64 " %.3f %.6f\n", sums->scans,
            sums->split, sums->failed, sums->back, sums->peak, sums->huge, sums->changed, sums->held, sums->weight);
     for (uint32_t i = 0; i < run->columns.count; i++)

@@ -21,7 +21,7 @@ from ..common.files import PMD_ORDER, open_input
 from ..common.program import start
 from ..common.text import escape, one_line, text_lines
 from .predictor import helper_with_libthp
-from .table import FRAMES_A_MEBIBYTE, aligned
+from .report import FRAMES_A_MEBIBYTE, aligned
 
 RECORDED, OFF, NEVER, ALL = "recorded", "off", "never", "all"
 AMOUNTS = {"events": (1.0, 1e15), "seconds": (0.001, 1e9), "held": (0.001, 1e9)}

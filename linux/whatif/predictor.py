@@ -91,12 +91,6 @@ class Predictor:
                 name = snapshot.names.get(folio.cgroup, f"inode {folio.cgroup}" if folio.cgroup else "none")
                 self._groups.setdefault(name, Counter())[number] += 1
 
-    @property
-    def partly(self) -> set[int]:
-        """The frames of the pages that are partly mapped."""
-        flags = [plan[2 * SET + 2] for plan in self._records]
-        return {folio.frame for folio, number in zip(self.folios, self.plans) if flags[number]}
-
     def _number(self, folio: Folio, locked_are_tried: bool) -> int:
         """Returns the number of a page's plan, a new one where no page had it. Raises NotPredictable."""
         plan = plan_page(folio, locked_are_tried).pack()

@@ -43,9 +43,8 @@ from .known_pages import change_pages, make_pages
 from .page_plan import Reason
 from .predictor import Predictor
 from .rows import OFF, label
-from .processes import ProcessChoice
 from .reference import given_back
-from .look import LookOptions, SnapshotTaker
+from .look import LookOptions, ProcessChoice, SnapshotTaker
 from .snapshot import NAME, Snapshot
 from .stored import to_json
 
@@ -83,7 +82,7 @@ class Result:
 
     snapshot: Snapshot
     folios: dict[int, Folio]  # those that can be predicted
-    partly: set[int]  # of these, the partly mapped ones
+    underused: int  # of these, those that are split as underused
     predicted: dict[int, int]
     plain: dict[int, int]
     returned: dict[int, int]
@@ -97,7 +96,7 @@ class Result:
     def statistics(self) -> dict[Statistic, int]:
         """Returns the two predicted counters: pages of PMD size split, and those of them split as underused."""
         large = [frame for frame in self.predicted if self.folios[frame].order == PMD_ORDER]
-        return {Statistic.SPLIT: len(large), Statistic.UNDERUSED: len(set(self.predicted) - self.partly)}
+        return {Statistic.SPLIT: len(large), Statistic.UNDERUSED: self.underused}
 
     @property
     def are_counters_right(self) -> bool:
@@ -134,13 +133,8 @@ class Bench:
         for path, value in settings(task).items():
             keeper.set(path, value)
         self._frames = Frames()
-        self._taker = SnapshotTaker(LookOptions(with_small=True, with_kernel=task.with_kernel))
+        self.taker = SnapshotTaker(LookOptions(with_small=True, with_kernel=task.with_kernel))
         self._made = 0
-
-    @property
-    def lacking(self) -> str:
-        """Why queues and pins are guessed; nothing where they are read."""
-        return self._taker.lacking
 
     def trial(self, threshold: int, chance: random.Random) -> Result:
         """Makes one trial on new pages."""
@@ -151,7 +145,7 @@ class Bench:
         with self._pages(group, threshold, chance), ExitStack() as stack:
             is_undisturbed = CounterWatch([]).watch_once(WINDOW)
             held = stack.enter_context(self.groups.freeze(group)) if is_held else Freeze()
-            snapshot = self._taker.take(ProcessChoice(groups=[group]))
+            snapshot = self.taker.take(ProcessChoice(groups=[group]))
             before = counts([])
             self.groups.reclaim(group)
             added = {name: count or 0 for name, count in counts([]).since(before).machine.items()}
@@ -253,7 +247,8 @@ def result_of(
     own = {frame: given for frame, given in returned.items() if frame in folios}
     unscripted = {frame: given for frame, given in returned.items() if frame not in folios}
     differing = [frame for frame in folios if predicted.get(frame) != own.get(frame)]
-    result = Result(snapshot, folios, predictor.partly, predicted, plain, own, unscripted, added)
+    underused = predictor.run([threshold])[0].underused
+    result = Result(snapshot, folios, underused, predicted, plain, own, unscripted, added)
     result.moved = len(moved.intersection(differing))
     result.differing = [frame for frame in differing if frame not in moved]
     return result
@@ -348,8 +343,8 @@ def verify(task: argparse.Namespace, user: User) -> int:
             bench, until = Bench(keeper, task, user), time.monotonic() + TURN
             if not sums:
                 print("set meanwhile, and put back: " + ", ".join(settings(task)), flush=True)
-                if bench.lacking:
-                    print(f"queues and pins aren't read ({bench.lacking}): predictions are guesses", flush=True)
+                if bench.taker.lacking:
+                    print(f"queues and pins aren't read ({bench.taker.lacking}): predictions are guesses", flush=True)
             while todo and time.monotonic() < until:
                 number, threshold = todo.pop()
                 result = bench.trial(threshold, random.Random(f"{task.seed} {number} {threshold}"))

@@ -7,9 +7,8 @@ import sys
 import time
 from typing import Callable, Sequence, TextIO
 
-from .report import Report
+from .report import Report, aligned
 from .rows import Row, label
-from .table import aligned
 
 CLEAR = "\033[H\033[J"  # of a terminal
 

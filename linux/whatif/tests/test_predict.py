@@ -66,7 +66,8 @@ def differences(
             sizes = {frame: size(given) for frame, given in wanted.items()}
             fates = {page.frame: one.frames_back(threshold, plan) for page, plan in zip(one.folios, one.plans)}
             fates = {frame: frames for frame, frames in fates.items() if frames is not None}
-            sums = (len(wanted), len(one.partly & set(wanted)), sum(sizes.values()))
+            partly = {page.frame for page in one.folios if plan_page(page, snapshot.locked_are_tried).is_partly}
+            sums = (len(wanted), len(partly & set(wanted)), sum(sizes.values()))
             if (fates, (row.split, row.partly, row.frames)) != (sizes, sums) or one.frames_given(threshold) != wanted:
                 out.append(f"{kernel} {threshold}")
     return out

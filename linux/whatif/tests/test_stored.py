@@ -20,10 +20,10 @@ from ...common.folios import compact_counts, even_counts
 from ...common.reader import FOLIO_COST
 from ..picture import picture
 from ..predictor import Predictor
+from ..report import cost_table, group_table, last_line, process_table, row_json, table
 from ..rows import DEFAULT, with_today
 from ..snapshot import Snapshot, list_notes
 from ..stored import LINE, StoredReader, from_json, json_parts, to_json
-from ..table import cost_table, group_table, last_line, process_table, row_json, table
 from .own_library import ROOT, lacking
 from .sample_folios import folio, holed_folio
 

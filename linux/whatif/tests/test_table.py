@@ -7,12 +7,11 @@ import unittest
 from collections import Counter
 from xml.etree import ElementTree
 
+from ..look import ProcessChoice
 from ..picture import picture, round_up
-from ..processes import ProcessChoice
-from ..report import Report
+from ..report import Report, cost_table, last_line, row_json, table
 from ..rows import OFF, Row, Share
 from ..snapshot import Snapshot
-from ..table import cost_table, last_line, row_json, table
 from ..watch import Watch, line_of, watch
 
 ROWS = [Row(OFF, 10, 2, 0, 1, 512), Row(0, 10, 8, 6, 1, 2816)]
