@@ -2,13 +2,10 @@
 
 from __future__ import annotations
 
-import re
 from array import array
 from dataclasses import dataclass, field
 from functools import lru_cache
-from typing import Any, Callable, Iterable, NamedTuple, Sequence
-
-from .files import PMD_ORDER
+from typing import NamedTuple, Sequence
 
 MOST_MAPPED = (1 << 32) - 1  # mappings of a subpage that are counted
 
@@ -84,104 +81,3 @@ class Folio:
     def zeros(self) -> int:
         """The subpages known to be zero-filled."""
         return self.zero & self.known
-
-    def to_json(self) -> dict[str, Any]:
-        """Returns it as a JSON object; sets as hexadecimal text. `folio_of` reads it back."""
-        out = dict(vars(self))
-        out.update({name: format(out[name], "x") for name in SETS})
-        out["mappings"] = [[m.process, format(m.address, "x"), format(m.subset, "x"), m.by_pmd] for m in self.mappings]
-        out["totals"] = pack(self.totals)
-        return out
-
-
-def pack(numbers: Iterable[int]) -> list[list[int]]:
-    """Returns runs of equal numbers, as pairs of how often and which."""
-    out: list[list[int]] = []
-    for number in numbers:
-        if out and out[-1][1] == number:
-            out[-1][0] += 1
-        else:
-            out.append([1, number])
-    return out
-
-
-SETS = ("zero", "known", "kept")
-FLAGS = ("is_locked", "is_poisoned", "is_swap_cached", "is_lazily_freed")
-MAYBE_FLAGS = ("is_queued", "is_partly")
-NUMBERS = {"frame": 1 << 52, "cgroup": (1 << 64) - 1}  # and the most that each may be
-LEAST = {"whole": 0, "pins": -MOST_MAPPED, "place": 0}  # pins: references dropped between two reads make it negative
-MOST_PROCESS = 1 << 31
-MOST_ADDRESS = (1 << 64) - 1  # a page whose first subpages aren't mapped may begin below address 0
-
-
-def number_of(value: Any, name: str, most: int, least: int = 0) -> int:
-    """Returns a whole number of a stored snapshot within limits. Raises ValueError on anything else."""
-    if type(value) is not int or not least <= value <= most:
-        raise ValueError(f"{name} is no whole number from {least} to {most}")
-    return value
-
-
-def flag_of(value: Any, name: str) -> bool:
-    """Returns a truth value of a stored snapshot. Raises ValueError on anything else."""
-    if type(value) is not bool:
-        raise ValueError(f"{name} is neither true nor false")
-    return value
-
-
-def hexadecimal(value: Any, name: str, most: int) -> int:
-    """Returns the number that a hexadecimal text of a stored snapshot means. Raises ValueError on anything else."""
-    if type(value) is not str or not re.fullmatch("[0-9a-f]{1,128}", value) or int(value, 16) > most:
-        raise ValueError(f"{name} is no hexadecimal number up to {most:x}")
-    return int(value, 16)
-
-
-def counts_of(pairs: Any, size: int) -> Sequence[int]:
-    """Returns the map counts that `pack` packed, of a page of `size` subpages. Raises ValueError on anything else."""
-    totals: list[int] = []
-    if type(pairs) is not list or len(pairs) > size:
-        raise ValueError("totals is no list of at most as many pairs as there are subpages")
-    for pair in pairs:
-        if type(pair) is not list or len(pair) != 2:
-            raise ValueError("totals has something else than a pair")
-        count = number_of(pair[0], "a count of totals", size, 1)
-        totals += [number_of(pair[1], "a number of totals", MOST_MAPPED)] * count
-        if len(totals) > size:
-            break
-    if len(totals) != size:
-        raise ValueError(f"totals doesn't have {size} numbers")
-    return compact_counts(totals)
-
-
-def mapping_of(stored: Any, full: int) -> Mapping:
-    """Returns a mapping of a stored snapshot. Raises ValueError on anything else."""
-    if type(stored) is not list or len(stored) != 4:
-        raise ValueError("a mapping isn't a process, an address, a set and a truth value")
-    process = number_of(stored[0], "the process of a mapping", MOST_PROCESS, 1)
-    address = hexadecimal(stored[1], "the address of a mapping", MOST_ADDRESS)
-    subset = hexadecimal(stored[2], "the subpages of a mapping", full)
-    return Mapping(process, address, subset, flag_of(stored[3], "the last of a mapping"))
-
-
-def folio_of(stored: Any) -> Folio:
-    """Returns a huge page from what `Folio.to_json` made. Raises ValueError where that is spoilt."""
-    if type(stored) is not dict:
-        raise ValueError("a huge page is no object")
-    values = {str(key): value for key, value in stored.items()}
-    order = number_of(values.pop("order", None), "order", PMD_ORDER, 2)
-    full = full_set(order)
-    out = Folio(number_of(values.pop("frame", None), "frame", NUMBERS["frame"]), order)
-    out.totals = counts_of(values.pop("totals", None), 1 << order)
-    listed = values.pop("mappings", [])
-    if type(listed) is not list:
-        raise ValueError("mappings is no list")
-    out.mappings = [mapping_of(one, full) for one in listed]
-    readers: dict[str, Callable[[Any, str], Any]] = {name: lambda v, n: hexadecimal(v, n, full) for name in SETS}
-    readers.update({name: flag_of for name in FLAGS + MAYBE_FLAGS})
-    readers["cgroup"] = lambda v, n: number_of(v, n, NUMBERS["cgroup"])
-    readers.update({name: lambda v, n: number_of(v, n, MOST_MAPPED, LEAST[n]) for name in LEAST})
-    for name, value in values.items():
-        if name not in readers:
-            raise ValueError(f"a huge page has no {name[:40]!r}")
-        is_missing = value is None and name in (*MAYBE_FLAGS, *LEAST)
-        setattr(out, name, None if is_missing else readers[name](value, name))
-    return out

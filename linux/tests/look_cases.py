@@ -15,8 +15,7 @@ from typing import Callable, Iterator
 from ..common.errors import DONE, FAILED, INCONCLUSIVE, SKIPPED
 from ..common.files import BASE
 from ..common.groups import find_hierarchy
-from ..whatif.look import LookOptions, SnapshotTaker, names_of_groups
-from ..whatif.processes import ProcessChoice
+from ..whatif.look import LookOptions, ProcessChoice, SnapshotTaker, names_of_groups
 from ..whatif.snapshot import Snapshot
 from .whatif_calls import SECONDS, USER, Call, Pages
 

@@ -10,9 +10,9 @@
  *   fork               a child that maps all this, too, and stays
  *   forkunmap P F C    the same, and the child gives these subpages up
  *   change MICROS SEED writes, clears, unmaps and faults subpages at random, one step in so many microseconds, for ever
- *   sync               prints `done N`: how many lines failed since the last one
+ *   sync               prints `done`
  *
- * What isn't there (no huge page could be had) makes its later lines fail, and nothing else.
+ * A line about a page that isn't there (no huge page could be had), or that fails, does nothing else.
  */
 #define _GNU_SOURCE
 #include <fcntl.h>
@@ -29,46 +29,42 @@
 
 enum { BASE = 4096, MOST = 4096 };
 static struct { unsigned char *at; size_t size; } page[MOST];
-static long count, failed;
+static long count;
 
-static int allocate(long order) {
+static void allocate(long order) {
     size_t size = (size_t)BASE << order;
-    if (count == MOST || order < 0 || order > 9) return -1;
-    page[count].size = size;
     unsigned char *room = mmap(NULL, 2 * size + 2 * BASE, PROT_NONE, MAP_PRIVATE | MAP_ANONYMOUS, -1, 0);
-    if (room == MAP_FAILED) return -1;
     unsigned char *at = (unsigned char *)(((uintptr_t)room + BASE + size - 1) & -size);
-    if (mmap(at, size, PROT_READ | PROT_WRITE, MAP_PRIVATE | MAP_ANONYMOUS | MAP_FIXED, -1, 0) == MAP_FAILED) return -1;
-    if (madvise(at, size, MADV_HUGEPAGE)) return -1;
+    page[count++].size = size;
+    if (room == MAP_FAILED) return;
+    if (mmap(at, size, PROT_READ | PROT_WRITE, MAP_PRIVATE | MAP_ANONYMOUS | MAP_FIXED, -1, 0) == MAP_FAILED) return;
+    if (madvise(at, size, MADV_HUGEPAGE)) return;
     *(volatile unsigned char *)at = 0;
-    page[count].at = at;
-    return 0;
+    page[count - 1].at = at;
 }
 
-static int pin(long p, long f) {
+static void pin(unsigned char *at) {
     int ends[2];
-    struct iovec one = { page[p].at + f * BASE, 1 };
-    return pipe(ends) || vmsplice(ends[1], &one, 1, 0) != 1;
+    struct iovec one = { at, 1 };
+    if (!pipe(ends)) vmsplice(ends[1], &one, 1, 0);
 }
 
-/* A child that stays; it gives `c` subpages of page `p` up first. */
-static int leave_child(long p, long f, long c) {
+/* A child that stays; it gives `size` bytes up first. */
+static void leave_child(unsigned char *at, size_t size) {
     int told[2];
-    char word;
-    if (pipe(told)) return -1;
-    pid_t child = fork();
-    if (child == 0) {
+    char none;
+    if (pipe(told)) return;
+    if (fork() == 0) {
         prctl(PR_SET_PDEATHSIG, SIGKILL);
-        if (c && madvise(page[p].at + f * BASE, c * BASE, MADV_DONTNEED)) _exit(1);
+        if (size && madvise(at, size, MADV_DONTNEED)) _exit(1);
         close(0);
         close(1);
-        if (write(told[1], "x", 1) != 1) _exit(1);
+        close(told[1]);
         for (;;) pause();
     }
     close(told[1]);
-    int bad = child < 0 || read(told[0], &word, 1) != 1;
+    while (read(told[0], &none, 1) > 0);
     close(told[0]);
-    return bad;
 }
 
 static void change(long micros, unsigned seed) {
@@ -83,28 +79,23 @@ static void change(long micros, unsigned seed) {
     }
 }
 
-static int is_range(long p, long f, long c) {
-    return p >= 0 && p < count && page[p].at && f >= 0 && c > 0 && (f + c) * BASE <= (long)page[p].size;
-}
-
-static int do_line(const char *text) {
-    long p = 0, f = 0, c = 0, v = 0;
-    if (sscanf(text, "alloc %ld", &p) == 1) { int bad = allocate(p); count += count < MOST; return bad; }
-    if (sscanf(text, "fill %ld %ld %ld %ld", &p, &f, &c, &v) == 4)
-        return !is_range(p, f, c) || !memset(page[p].at + f * BASE, (int)v, c * BASE);
-    if (sscanf(text, "unmap %ld %ld %ld", &p, &f, &c) == 3)
-        return !is_range(p, f, c) || madvise(page[p].at + f * BASE, c * BASE, MADV_DONTNEED);
-    if (sscanf(text, "free %ld %ld %ld", &p, &f, &c) == 3)
-        return !is_range(p, f, c) || madvise(page[p].at + f * BASE, c * BASE, MADV_FREE);
-    if (sscanf(text, "splitpmd %ld", &p) == 1)
-        return !is_range(p, 0, 1) || madvise(page[p].at, page[p].size / 2, MADV_DONTDUMP)
-            || madvise(page[p].at, page[p].size / 2, MADV_DODUMP);
-    if (sscanf(text, "lock %ld", &p) == 1) return !is_range(p, 0, 1) || mlock(page[p].at, page[p].size);
-    if (sscanf(text, "pin %ld %ld", &p, &f) == 2) return !is_range(p, f, 1) || pin(p, f);
-    if (sscanf(text, "forkunmap %ld %ld %ld", &p, &f, &c) == 3) return !is_range(p, f, c) || leave_child(p, f, c);
-    if (!strncmp(text, "fork", 4)) return leave_child(0, 0, 0);
-    if (sscanf(text, "change %ld %ld", &p, &v) == 2 && count && p > 0) change(p, (unsigned)v);
-    return -1;
+static void do_line(const char *text) {
+    char word[16];
+    long p = 0, f = 0, c = 1, v = 0;
+    int numbers = sscanf(text, "%15s %ld %ld %ld %ld", word, &p, &f, &c, &v) - 1;
+    if (!strcmp(word, "alloc") && count < MOST && p >= 0 && p <= 9) allocate(p);
+    if (!strcmp(word, "change") && count && p > 0) change(p, (unsigned)f);
+    if (!strcmp(word, "fork")) leave_child(NULL, 0);
+    if (numbers < 1 || p < 0 || p >= count || !page[p].at || f < 0 || c < 1 || (f + c) * BASE > (long)page[p].size) return;
+    unsigned char *at = page[p].at + f * BASE;
+    size_t size = c * BASE;
+    if (!strcmp(word, "fill")) memset(at, (int)v, size);
+    if (!strcmp(word, "unmap")) madvise(at, size, MADV_DONTNEED);
+    if (!strcmp(word, "free")) madvise(at, size, MADV_FREE);
+    if (!strcmp(word, "lock")) mlock(page[p].at, page[p].size);
+    if (!strcmp(word, "pin")) pin(at);
+    if (!strcmp(word, "forkunmap")) leave_child(at, size);
+    if (!strcmp(word, "splitpmd") && !madvise(at, page[p].size / 2, MADV_DONTDUMP)) madvise(at, page[p].size / 2, MADV_DODUMP);
 }
 
 int main(void) {
@@ -112,10 +103,8 @@ int main(void) {
     signal(SIGCHLD, SIG_IGN);
     prctl(PR_SET_PDEATHSIG, SIGKILL);
     while (fgets(text, sizeof text, stdin)) {
-        if (strncmp(text, "sync", 4)) { failed += do_line(text) != 0; continue; }
-        printf("done %ld\n", failed);
-        fflush(stdout);
-        failed = 0;
+        do_line(text);
+        if (!strncmp(text, "sync", 4) && (puts("done") < 0 || fflush(stdout))) return 1;
     }
     return 0;
 }

@@ -4,12 +4,10 @@ from __future__ import annotations
 
 import random
 import subprocess
-from collections import Counter
-from typing import Callable, List, Sequence, Tuple
+from typing import Callable, Sequence
 
 from ..common.errors import Unavailable
 from ..common.files import PMD_ORDER
-from ..common.helpers import helper
 from ..common.subpages import bits_of, runs
 
 # numbers of zero-filled subpages, round the thresholds
@@ -17,77 +15,64 @@ EDGES = (0, 1, 2, 15, 16, 17, 31, 32, 33, 63, 64, 65, 127, 128, 129, 200, 255, 2
 FULL = (499, 500, 501, 509, 510, 511, 512)
 
 
-class KnownPages:
-    """The helper known.c, which makes huge pages on command."""
-
-    def __init__(self, start: Callable[[Sequence[str]], subprocess.Popen[str]]) -> None:
-        self.process = start([helper("known")])
-        self.kinds: Counter[str] = Counter()
-        self.failed = 0
-
-    def send(self, lines: Sequence[str]) -> int:
-        """Sends lines and waits until they are done; returns how many failed."""
-        assert self.process.stdin and self.process.stdout
-        try:
-            self.process.stdin.write("".join(line + "\n" for line in lines) + "sync\n")
-            self.process.stdin.flush()
-            word, _, count = self.process.stdout.readline().partition(" ")
-        except OSError as error:
-            raise Unavailable(f"the helper that makes known pages ended: {error.strerror}") from error
-        if word != "done":
-            raise Unavailable("the helper that makes known pages ended")
-        self.failed += int(count)
-        return int(count)
-
-    def make(self, chance: random.Random, count: int, orders: Sequence[int], look: Callable[[], None]) -> None:
-        """Makes `count` pages of these orders. `look` has the shrinker look at those that are there, so that they
-        leave the queue or are split; it is called at most once."""
-        until = chance.choice((0, count // 3))
-        for number in range(count):
-            if number and number == until:
-                look()
-                self.kinds["looked at before"] += number
-            self.send(self._page(chance, number, chance.choice(orders)))
-            self.kinds["pages"] += 1
-
-    def change(self, micros: int, seed: int) -> None:
-        """Has the helper change its pages for ever. It accepts no further command."""
-        assert self.process.stdin
-        self.process.stdin.write(f"change {micros} {seed}\n")
-        self.process.stdin.flush()
-
-    def _page(self, chance: random.Random, page: int, order: int) -> List[str]:
-        size = 1 << order
-        zero = chance.choice(EDGES + FULL) if order == PMD_ORDER else chance.randrange(size + 1)
-        lines = [f"alloc {order}"] + fills(chance, page, size, zero)
-        kinds: List[Tuple[str, float, Callable[[], List[str]]]] = [
-            ("by PTEs", 0.15, lambda: [f"splitpmd {page}"]),
-            ("locked", 0.05, lambda: [f"lock {page}"]),
-            ("pinned", 0.06, lambda: [f"pin {page} {chance.randrange(size)}"]),
-            ("forks", 0.15, lambda: [fork(chance, page, size)]),
-            ("unmapped in part", 0.3, lambda: [unmap(chance, page, size) for _ in range(chance.choice((1, 1, 2)))]),
-            ("given to MADV_FREE", 0.06, lambda: [free(chance, page, size)]),
-            ("written after that", 0.1, lambda: [f"fill {page} 0 1 7"]),
-        ]
-        for kind, likely, make in kinds:
-            if chance.random() < likely:
-                lines += make()
-                self.kinds[kind] += 1
-        return lines
+def send(known: subprocess.Popen[str], lines: Sequence[str]) -> None:
+    """Sends lines to the helper known.c, which makes huge pages on command, and waits until they are done, or failed."""
+    assert known.stdin and known.stdout
+    try:
+        known.stdin.write("".join(line + "\n" for line in lines) + "sync\n")
+        known.stdin.flush()
+        answer = known.stdout.readline()
+    except OSError as error:
+        raise Unavailable(f"the helper that makes known pages ended: {error.strerror}") from error
+    if answer != "done\n":
+        raise Unavailable("the helper that makes known pages ended")
 
 
-def fills(chance: random.Random, page: int, size: int, zero: int) -> List[str]:
+def make_pages(known: subprocess.Popen[str], chance: random.Random, count: int, orders: Sequence[int], look: Callable[[], None]) -> None:
+    """Has the helper make `count` pages of these orders. `look` has the shrinker look at those that are there, so that they
+    leave the queue or are split; it is called at most once."""
+    until = chance.choice((0, count // 3))
+    for number in range(count):
+        if number and number == until:
+            look()
+        send(known, page_lines(chance, number, chance.choice(orders)))
+
+
+def change_pages(known: subprocess.Popen[str], count: int, micros: int, seed: int) -> None:
+    """Has the helper make `count` pages and change them for ever. It accepts no further command."""
+    assert known.stdin
+    send(known, [f"alloc {PMD_ORDER}"] * count)
+    known.stdin.write(f"change {micros} {seed}\n")
+    known.stdin.flush()
+
+
+def page_lines(chance: random.Random, page: int, order: int) -> list[str]:
+    """Returns the lines that make a page: its content, and what befalls it by chance."""
+    size = 1 << order
+    zero = chance.choice(EDGES + FULL) if order == PMD_ORDER else chance.randrange(size + 1)
+    lines = [f"alloc {order}"] + fills(chance, page, size, zero)
+    kinds: list[tuple[float, Callable[[], list[str]]]] = [
+        (0.15, lambda: [f"splitpmd {page}"]),
+        (0.05, lambda: [f"lock {page}"]),
+        (0.06, lambda: [f"pin {page} {chance.randrange(size)}"]),
+        (0.15, lambda: ["fork" if chance.random() < 0.5 else f"forkunmap {page} 0 {chance.randrange(1, size)}"]),
+        (0.3, lambda: [unmap(chance, page, size) for _ in range(chance.choice((1, 1, 2)))]),
+        (0.06, lambda: [free(chance, page, size)]),
+        (0.1, lambda: [f"fill {page} 0 1 7"]),
+    ]
+    for likely, make in kinds:
+        if chance.random() < likely:
+            lines += make()
+    return lines
+
+
+def fills(chance: random.Random, page: int, size: int, zero: int) -> list[str]:
     """Writes data, except in `zero` subpages, which are one run or scattered."""
     if chance.random() < 0.5:
         data = bits_of(0, size) & ~bits_of(chance.randrange(size - zero + 1), zero)
     else:
         data = sum(1 << i for i in chance.sample(range(size), size - zero))
     return [f"fill {page} {first} {count} {chance.randrange(1, 256)}" for first, count in runs(data)]
-
-
-def fork(chance: random.Random, page: int, size: int) -> str:
-    """Returns a child that maps all pages, or all but a part of this one."""
-    return "fork" if chance.random() < 0.5 else f"forkunmap {page} 0 {chance.randrange(1, size)}"
 
 
 def free(chance: random.Random, page: int, size: int) -> str:

@@ -4,12 +4,9 @@ from __future__ import annotations
 
 import argparse
 
-from ..common.arguments import OneLineParser, seconds, whole
-from ..common.errors import InputFault
+from ..common.arguments import OneLineParser, seconds, tool_parser, whole
 from ..common.reader import MEMORY
-from ..common.version import add_version
-from .look import LookOptions
-from .processes import ProcessChoice
+from .rows import thresholds_of
 from .snapshot import NAME
 
 MOST_PROCESS = 1 << 22  # the kernel's limit of process numbers
@@ -27,10 +24,15 @@ def add_choice(words: argparse.ArgumentParser) -> None:
     words.add_argument("--all", action="store_true", help="all processes")
     add_memory(words)
     words.add_argument("--orders", action="store_true", help="huge pages below PMD size, too")
+    words.add_argument("--queued", choices=("seen", "all"), default="seen", help="all: as if each page were still in its queue")
+    add_no_kernel(words)
+
+
+def add_no_kernel(words: argparse.ArgumentParser) -> None:
+    """Adds the option that does without the kernel's queues and structures of pages."""
     words.add_argument(
-        "--queued", choices=("seen", "all"), default="seen", help="all: as if each page were still in its queue"
+        "--no-kernel", dest="with_kernel", action="store_false", help="guess queues and pins instead of reading them"
     )
-    words.add_argument("--no-kernel", action="store_true", help="guess queues and pins instead of reading them")
 
 
 def add_memory(words: argparse.ArgumentParser) -> None:
@@ -38,9 +40,14 @@ def add_memory(words: argparse.ArgumentParser) -> None:
     words.add_argument("--memory", type=whole(1, MOST_MEMORY), default=MEMORY, metavar="MIB", help="the limit of memory")
 
 
-def add_thresholds(words: argparse.ArgumentParser) -> None:
+def add_thresholds(words: argparse.ArgumentParser, about: str = "as for now") -> None:
+    """Adds the option of thresholds."""
+    words.add_argument("--thresholds", type=thresholds_of, metavar="LIST", help=about)
+
+
+def add_tables(words: argparse.ArgumentParser) -> None:
     """Adds the options of a table."""
-    words.add_argument("--thresholds", metavar="LIST", help="off and numbers from 0 to 511, joined by commas")
+    add_thresholds(words, "off and numbers from 0 to 511, joined by commas")
     words.add_argument("--json", action="store_true", help="a JSON object instead of tables")
     words.add_argument("--by-process", action="store_true", help="a table by process, too")
     words.add_argument("--by-cgroup", action="store_true", help="a table by control group, too")
@@ -49,30 +56,29 @@ def add_thresholds(words: argparse.ArgumentParser) -> None:
 
 def parser() -> argparse.ArgumentParser:
     """Returns all commands and their options."""
-    top = OneLineParser(prog=NAME, description="What would the shrinker of transparent huge pages give back now?")
-    add_version(top, NAME)
+    top = tool_parser(NAME, "What would the shrinker of transparent huge pages give back now?")
     commands = top.add_subparsers(dest="command", required=True, metavar="COMMAND", parser_class=OneLineParser)
     now = commands.add_parser("now", help="look, and print what each threshold would give back")
+    now.set_defaults(files=[])
     add_choice(now)
-    add_thresholds(now)
+    add_tables(now)
     snapshot = commands.add_parser("snapshot", help="look, and write what was read")
     add_choice(snapshot)
     snapshot.add_argument("-o", "--output", default="-", metavar="FILE", help="the new file; if not given, standard output")
     what_if = commands.add_parser("what-if", help="the table of what snapshot wrote")
     what_if.add_argument("files", nargs="+", metavar="FILE", help="of snapshot; - is standard input")
     add_memory(what_if)
-    add_thresholds(what_if)
+    add_tables(what_if)
     target = commands.add_parser("target", help="the highest threshold that gives back so much")
     target.add_argument("mebibytes", type=seconds(0.001, MOST_FREED), metavar="MIB")
     target.add_argument("files", nargs="*", metavar="FILE", help="of snapshot; else --pid, --cgroup or --all")
     target.add_argument("--json", action="store_true")
     add_choice(target)
     watching = commands.add_parser("watch", help="look again and again, and print how the rows change")
-    longest = seconds(0.001, LONGEST)
-    watching.add_argument("seconds", type=longest, metavar="SECONDS", help="from one look to the next")
+    watching.add_argument("seconds", type=seconds(0.001, LONGEST), metavar="SECONDS", help="from one look to the next")
     rounds = whole(0, MOST_COUNT)
     watching.add_argument("--rounds", type=rounds, default=0, metavar="N", help="end after so many looks; 0: by SIGINT")
-    watching.add_argument("--thresholds", metavar="LIST", help="as for now")
+    add_thresholds(watching)
     watching.add_argument("--json", action="store_true", help="a JSON object for each look, on a line")
     watching.add_argument("--prometheus", metavar="FILE", help="write each look as metrics, replacing FILE")
     add_choice(watching)
@@ -98,7 +104,7 @@ def add_policies(words: argparse.ArgumentParser) -> None:
 
 def add_verify(words: argparse.ArgumentParser) -> None:
     """Adds the options of verify."""
-    words.add_argument("--thresholds", metavar="LIST", help="as for now")
+    add_thresholds(words)
     count, most = whole(1, MOST_COUNT), whole(1, 4000)
     words.add_argument("--rounds", type=count, default=1, metavar="N", help="how often each threshold is tried")
     words.add_argument("--seed", type=whole(0, 10**17), default=1, metavar="S")
@@ -111,24 +117,7 @@ def add_verify(words: argparse.ArgumentParser) -> None:
     words.add_argument("--wait", action="store_true", help="wait until another tool that changes the machine has ended")
     words.add_argument("--running", action="store_true", help="don't hold the pages still until the comparison")
     words.add_argument("--enabled", choices=("always", "madvise"), help="transparent_hugepage/enabled meanwhile")
-    words.add_argument("--no-kernel", action="store_true", help="guess queues and pins instead of reading them")
+    add_no_kernel(words)
     words.add_argument("--keep", default="", metavar="FOLDER", help="write what each trial saw there")
     words.add_argument("--verbose", action="store_true", help="a line for each trial")
     words.add_argument("words", nargs="*", metavar="-- COMMAND", help="a command to try instead of known pages")
-
-
-def parse_choice(options: argparse.Namespace) -> ProcessChoice:
-    """Returns what is to be looked at."""
-    if not (options.pid or options.cgroup or options.all):
-        raise InputFault(f"{options.command} needs --pid, --cgroup or --all (--help has the options)")
-    return ProcessChoice(options.pid, options.cgroup, options.all)
-
-
-def parse_look_options(options: argparse.Namespace) -> LookOptions:
-    """Returns how it is to be looked at."""
-    return LookOptions(
-        with_small=options.orders,
-        with_kernel=not options.no_kernel,
-        all_queued=options.queued == "all",
-        memory=options.memory,
-    )

@@ -31,13 +31,13 @@ enum { LINE = 8192, COLUMNS = 512 };
 struct sums {
     uint64_t scans;
     uint64_t split;   /* pages split */
-    uint64_t failed;  /* tries that found a pin */
+    uint64_t failed;  /* tries that found a pin; until the end those of scans that were skipped */
     uint64_t back;    /* frames that scans gave back */
     uint64_t peak;    /* the greatest number of frames held */
+    uint64_t huge;    /* live pages that aren't split; until the end with those that were */
+    uint64_t changed; /* calls that were done in another form */
     double held;      /* frames held, each by the weight of its time */
     double weight;    /* seconds */
-    uint64_t huge;    /* live pages that aren't split */
-    uint64_t changed; /* calls that were done in another form */
 };
 
 /* The greatest number of frames held in each `width` events. Pairs become one column when all are full. */
@@ -96,6 +96,10 @@ static void demand(thp_code code) {
     if (code != THP_OK) fail(1, thp_strerror(code));
 }
 
+static uint64_t larger(uint64_t one, uint64_t other) {
+    return one > other ? one : other;
+}
+
 static thp_stats stats_of(struct run *run) {
     thp_stats stats;
     demand(thp_node_stats(&run->node, &stats));
@@ -108,28 +112,23 @@ static void weigh(struct run *run, double weight) {
     run->sums.weight += weight;
 }
 
-/* Joins pairs of columns. */
-static void halve(struct columns *columns) {
-    for (uint32_t i = 0; i < COLUMNS / 2; i++) {
-        uint64_t left = columns->most[2 * i], right = columns->most[2 * i + 1];
-        columns->most[i] = left > right ? left : right;
-    }
-    columns->count = COLUMNS / 2;
-    columns->width *= 2;
-}
-
 /* Notes what is held after an event. */
 static void note_held(struct run *run) {
     uint64_t held = stats_of(run).frames_held;
     struct columns *columns = &run->columns;
     if (columns->count == 0 || columns->in_last == columns->width) {
-        if (columns->count == COLUMNS) halve(columns);
+        if (columns->count == COLUMNS) {
+            for (uint32_t i = 0; i < COLUMNS; i += 2)
+                columns->most[i / 2] = larger(columns->most[i], columns->most[i + 1]);
+            columns->count = COLUMNS / 2;
+            columns->width *= 2;
+        }
         columns->most[columns->count++] = 0;
         columns->in_last = 0;
     }
     columns->in_last++;
-    if (held > columns->most[columns->count - 1]) columns->most[columns->count - 1] = held;
-    if (held > run->sums.peak) run->sums.peak = held;
+    columns->most[columns->count - 1] = larger(columns->most[columns->count - 1], held);
+    run->sums.peak = larger(run->sums.peak, held);
 }
 
 /* A scan of `n` pages, in batches of at most THP_MAX_BATCH. Returns how many it took, if it put all of them back, else 0. */
@@ -139,9 +138,6 @@ static uint64_t scan(struct run *run, uint32_t caller, uint32_t n) {
     while (n) {
         uint32_t part = n < THP_MAX_BATCH ? n : THP_MAX_BATCH;
         demand(thp_node_scan(&run->node, caller, part, &done));
-        run->sums.split += done.split;
-        run->sums.failed += done.pinned;
-        run->sums.huge -= done.split;
         taken += done.taken;
         back += done.back;
         n = done.taken < part ? 0 : n - part;
@@ -155,12 +151,8 @@ static uint64_t scan(struct run *run, uint32_t caller, uint32_t n) {
 static void do_tries(struct run *run, uint32_t caller) {
     struct batch *batch = &run->batches[caller];
     uint64_t before = stats_of(run).frames_given;
-    for (thp_tried tried; batch->tried < batch->wanted; batch->tried++) {
+    for (thp_tried tried; batch->tried < batch->wanted; batch->tried++)
         demand(thp_node_split_next(&run->node, caller, &tried));
-        run->sums.split += tried.kind == THP_TRY_SPLIT;
-        run->sums.huge -= tried.kind == THP_TRY_SPLIT;
-        run->sums.failed += tried.kind == THP_TRY_PINNED;
-    }
     run->sums.back += stats_of(run).frames_given - before;
 }
 
@@ -199,16 +191,21 @@ static void end_batch(struct run *run, uint32_t caller) {
     run->batches[caller].is_open = false;
 }
 
+/* How many pages a scan takes where the journal's took `recorded`; 0: the journal has none here. */
+static uint32_t count_of(struct run *run, uint32_t recorded) {
+    const char *take = run->policy->take;
+    if (recorded && !strcmp(take, "recorded")) return recorded;
+    if (strcmp(take, "recorded") && strcmp(take, "all")) return (uint32_t)strtoul(take, NULL, 10);
+    return (uint32_t)stats_of(run).queued;
+}
+
 /* Does the takes in a row that the journal had: by a batch that stays open, or as a scan where the policy changes how many are taken. */
 static void end_takes(struct run *run) {
     uint32_t n = run->taken, taken;
     run->taken = 0;
     if (!n || strcmp(run->policy->when, "recorded")) return;
-    const char *take = run->policy->take;
-    if (strcmp(take, "recorded") || n > THP_MAX_BATCH) {
-        if (!strcmp(take, "all")) demand(thp_node_queue_length(&run->node, &n));
-        else if (strcmp(take, "recorded")) n = (uint32_t)strtoul(take, NULL, 10);
-        scan(run, run->taker, n);
+    if (strcmp(run->policy->take, "recorded") || n > THP_MAX_BATCH) {
+        scan(run, run->taker, count_of(run, n));
         return;
     }
     end_batch(run, run->taker);
@@ -221,10 +218,7 @@ static void end_takes(struct run *run) {
 
 /* A scan that only the policy has. Returns what `scan` returns. */
 static uint64_t scan_by_policy(struct run *run) {
-    uint32_t n;
-    demand(thp_node_queue_length(&run->node, &n));
-    if (strcmp(run->policy->take, "all") && strcmp(run->policy->take, "recorded"))
-        n = (uint32_t)strtoul(run->policy->take, NULL, 10);
+    uint32_t n = count_of(run, 0);
     run->calls = 0;
     return n ? scan(run, 0, n) : 0;
 }
@@ -251,12 +245,9 @@ static void pass_scans(struct run *run, uint64_t scans) {
 /* Counts scans until a time that put back all `taken` pages that each takes, as those before did: all `queued` pages are pinned. Full
  * turns of the queue are skipped, so that its order stays that of the scans. */
 static void skip_scans(struct run *run, double until, uint64_t taken, uint64_t queued) {
-    uint64_t part = taken % queued, divisor = queued;
-    for (uint64_t rest; part; part = rest) {
-        rest = divisor % part;
-        divisor = part;
-    }
-    uint64_t turn = queued / divisor, scans = scans_until(run, until) / turn * turn;
+    uint64_t turn = 1;
+    while (turn * taken % queued) turn++;
+    uint64_t scans = scans_until(run, until) / turn * turn;
     run->sums.scans += scans;
     run->sums.failed += scans * taken;
     pass_scans(run, scans);
@@ -266,8 +257,7 @@ static void skip_scans(struct run *run, double until, uint64_t taken, uint64_t q
 static void pass_time(struct run *run, double until) {
     uint64_t in_row = 0; /* pages that scans took and put back, one after the other, since anything else happened */
     while (!strcmp(run->policy->when, "seconds") && run->last_scan + run->policy->amount <= until) {
-        uint32_t queued;
-        demand(thp_node_queue_length(&run->node, &queued));
+        uint64_t queued = stats_of(run).queued;
         if (!queued) {
             run->last_scan += run->policy->amount * (double)scans_until(run, until);
             break;
@@ -295,16 +285,17 @@ static bool map_range(struct run *run, const struct event *event, uint32_t first
     return false;
 }
 
-/* Removes a PTE mapping of a range of a page that has PMD mappings here which the journal's page had no more. */
+/* Removes a PTE mapping of a range. The page may have PMD mappings here which the journal's page had no more. */
 static bool unmap_range(struct run *run, const struct event *event, const thp_page_state *page, thp_done *done) {
+    if (!page->whole_mapcount) return map_range(run, event, event->first, event->count, false, done);
     thp_code code = thp_node_unmap_sub(&run->node, event->caller, event->page, event->first, event->count, done);
     if (code == THP_OK) return true;
-    if (page->whole_mapcount && event->count == run->subpages) {
+    if (event->count == run->subpages) {
         demand(thp_node_unmap_whole(&run->node, event->caller, event->page, done));
-        return false;
+    } else {
+        demand(thp_node_split_pmd(&run->node, event->caller, event->page));
+        map_range(run, event, event->first, event->count, false, done);
     }
-    if (page->whole_mapcount) demand(thp_node_split_pmd(&run->node, event->caller, event->page));
-    map_range(run, event, event->first, event->count, false, done);
     return false;
 }
 
@@ -350,38 +341,28 @@ static void call_page(struct run *run, const struct event *event) {
     run->sums.changed += !is_same;
 }
 
-/* An event of a recorded scan. */
-static void follow_scan(struct run *run, const struct event *event) {
-    if (!strcmp(event->word, "taken")) {
+/* Does an event of a recorded scan. Returns false where it is another one. */
+static bool follow_scan(struct run *run, const struct event *event) {
+    const char *word = event->word;
+    if (!strcmp(word, "taken")) {
         if (run->taken && run->taker != event->caller) end_takes(run);
         run->taker = event->caller;
         if (run->taken < THP_MAX_BATCH) run->takes[run->taken] = event->page;
         run->taken++;
-    } else {
-        end_takes(run);
-        if (!run->batches[event->caller].is_open) return;
-        if (!strcmp(event->word, "back") || !strcmp(event->word, "dropped")) {
-            end_batch(run, event->caller);
-        } else {
-            try_page(run, event->caller, event->page);
-        }
+        return true;
     }
-}
-
-static bool is_of_scan(const char *word) {
-    static const char *const words[] = {"taken", "split", "pinned", "used", "back", "dropped"};
-    for (size_t i = 0; i < sizeof words / sizeof *words; i++)
-        if (!strcmp(word, words[i])) return true;
-    return false;
+    end_takes(run);
+    bool is_end = !strcmp(word, "back") || !strcmp(word, "dropped");
+    if (!is_end && strcmp(word, "split") && strcmp(word, "pinned") && strcmp(word, "used")) return false;
+    if (is_end) end_batch(run, event->caller);
+    else if (run->batches[event->caller].is_open) try_page(run, event->caller, event->page);
+    return true;
 }
 
 /* Does an event under the policy. */
 static void follow(struct run *run, const struct event *event) {
     uint64_t page;
-    if (is_of_scan(event->word)) {
-        follow_scan(run, event);
-    } else {
-        end_takes(run);
+    if (!follow_scan(run, event)) {
         if (!strcmp(event->word, "alloc")) {
             demand(thp_node_alloc(&run->node, event->caller, &page));
             run->sums.huge++;
@@ -414,33 +395,25 @@ static void end(struct run *run) {
     end_takes(run);
     for (uint32_t caller = 0; caller < THP_MAX_CALLERS; caller++)
         if (run->batches[caller].is_open) do_tries(run, caller);
-    const struct sums *sums = &run->sums;
-    printf("node %" PRIu64 " %" PRIu64 " %" PRIu64 " %" PRIu64 " %" PRIu64 " %.3f %.6f %" PRIu64 " %" PRIu64 "\n", sums->scans,
-           sums->split, sums->failed, sums->back, sums->peak, sums->held, sums->weight, sums->huge, sums->changed);
+    struct sums *sums = &run->sums;
+    thp_stats stats = stats_of(run);
+    sums->split = stats.split_page;
+    sums->huge -= stats.split_page;
+    sums->failed += stats.split_page_failed;
+    printf("node %" PRIu64 " %" PRIu64 " %" PRIu64 " %" PRIu64 " %" PRIu64 " %" PRIu64 " %" PRIu64 " %.3f %.6f\n", sums->scans,
+           sums->split, sums->failed, sums->back, sums->peak, sums->huge, sums->changed, sums->held, sums->weight);
     for (uint32_t i = 0; i < run->columns.count; i++)
         printf("column %" PRIu64 " %" PRIu64 "\n", i + 1 < run->columns.count ? run->columns.width : run->columns.in_last,
                run->columns.most[i]);
     demand(thp_node_destroy(&run->node));
 }
 
-/* Reads a number and the space after it; 0 where there is none. */
-static uint64_t number_at(const char **text) {
-    uint64_t number = 0;
-    for (; **text >= '0' && **text <= '9'; ++*text) number = 10 * number + (uint64_t)(**text - '0');
-    if (**text == ' ') ++*text;
-    return number;
-}
-
 /* Reads an event's line. */
 static struct event event_of(const char *text) {
-    struct event event = {.caller = (uint32_t)number_at(&text)};
-    size_t length = strcspn(text, " \n");
-    if (length == 0 || length >= sizeof event.word || event.caller >= THP_MAX_CALLERS) fail(1, "no event");
-    memcpy(event.word, text, length);
-    text += length + (text[length] == ' ');
-    event.page = number_at(&text);
-    event.first = (uint32_t)number_at(&text);
-    event.count = (uint32_t)number_at(&text);
+    struct event event = {0};
+    int fields = sscanf(text, "%" SCNu32 " %15s %" SCNu64 " %" SCNu32 " %" SCNu32, &event.caller, event.word, &event.page,
+                        &event.first, &event.count);
+    if (fields < 2 || event.caller >= THP_MAX_CALLERS) fail(1, "no event");
     return event;
 }
 

@@ -11,6 +11,7 @@ import shutil
 import subprocess
 import tempfile
 from concurrent.futures import ThreadPoolExecutor
+from contextlib import ExitStack
 from dataclasses import dataclass, field
 from typing import IO, Any, Sequence
 
@@ -19,12 +20,12 @@ from ..common.errors import USAGE, InputFault, RunFailed
 from ..common.files import PMD_ORDER, open_input
 from ..common.program import start
 from ..common.text import escape, one_line, text_lines
-from .libthp import helper_with_libthp
-from .table import FRAMES_A_MEBIBYTE, aligned
+from .predictor import helper_with_libthp
+from .report import FRAMES_A_MEBIBYTE, aligned
 
 RECORDED, OFF, NEVER, ALL = "recorded", "off", "never", "all"
 AMOUNTS = {"events": (1.0, 1e15), "seconds": (0.001, 1e9), "held": (0.001, 1e9)}
-HEAD = ("threshold", "scans", "takes", "pages split", "failed", "frames back", "MiB back", "peak MiB", "huge at end")
+HEAD = ("threshold", "scans", "takes", "pages split", "failed", "frames back", "MiB back", "peak MiB")
 HOUR = 3600.0
 
 
@@ -41,11 +42,6 @@ class Policy:
     def scans(self) -> str:
         """Returns when a scan comes, as a user writes it."""
         return f"{self.when}:{self.amount:g}" if self.when in AMOUNTS else self.when
-
-    @property
-    def takes(self) -> str:
-        """Returns how many pages a scan takes, as the table has it."""
-        return "-" if self.when == NEVER else self.take
 
     def words(self) -> list[str]:
         """Returns the words for the helper. It counts what is held in frames."""
@@ -64,24 +60,18 @@ class Outcome:
     failed: int = 0
     back: int = 0
     peak: int = 0
-    held: float = 0.0
-    weight: float = 0.0
     huge: int = 0
     changed: int = 0
+    held: float = 0.0
+    weight: float = 0.0
     columns: list[list[tuple[int, int]]] = field(default_factory=list)
 
-    def add(self, numbers: Sequence[float]) -> None:
+    def add(self, words: Sequence[str]) -> None:
         """Adds the numbers of a node, in the order of the helper's line."""
-        scans, split, failed, back, peak, held, weight, huge, changed = numbers
-        self.scans += int(scans)
-        self.split += int(split)
-        self.failed += int(failed)
-        self.back += int(back)
-        self.peak += int(peak)
-        self.held += held
-        self.weight = max(self.weight, weight)
-        self.huge += int(huge)
-        self.changed += int(changed)
+        *numbers, held, weight = words
+        for name, number in zip(("scans", "split", "failed", "back", "peak", "huge", "changed"), numbers):
+            setattr(self, name, getattr(self, name) + int(number))
+        self.held, self.weight = self.held + float(held), max(self.weight, float(weight))
         self.columns.append([])
 
     @property
@@ -93,6 +83,11 @@ class Outcome:
     def peak_mebibytes(self) -> float:
         """The most MiB held: of several nodes the sum of each one's most."""
         return self.peak / FRAMES_A_MEBIBYTE
+
+    @property
+    def hours(self) -> float:
+        """MiB by hours."""
+        return self.held / FRAMES_A_MEBIBYTE / HOUR
 
     def to_json(self, timed: bool) -> dict[str, Any]:
         """Returns it as a JSON object."""
@@ -111,7 +106,7 @@ class Outcome:
             "calls_changed": self.changed,
         }
         if timed:
-            out["mebibyte_hours"] = round(self.held / FRAMES_A_MEBIBYTE / HOUR, 6)
+            out["mebibyte_hours"] = round(self.hours, 6)
         return out
 
 
@@ -157,13 +152,13 @@ def open_again(path: str) -> IO[bytes]:
     file = open_input(path)
     if path != "-":
         return file
+    spool = tempfile.TemporaryFile(prefix="thpwhatif-")
     try:
-        spool = tempfile.TemporaryFile(prefix="thpwhatif-")
         shutil.copyfileobj(file, spool)
         spool.flush()
-        return spool
     except OSError as error:
         raise InputFault(f"{escape(path)} can't be read: {error.strerror}") from error
+    return spool
 
 
 @dataclass(frozen=True)
@@ -202,45 +197,28 @@ class IllegalJournal(Exception):
 
 
 def try_policy(program: str, policy: Policy, recordings: Sequence[Recording]) -> Outcome:
-    """Repeats the calls of all recordings under a policy."""
+    """Repeats the calls of all recordings under a policy. RunFailed where the helper fails, InputFault where times don't fit."""
     outcome = Outcome(policy)
     for recording in recordings:
-        with reopened(recording.journal) as journal:
-            words, inherited = policy.words(), []
-            times = reopened(recording.times) if recording.times else None
-            if times:
-                inherited = [times.fileno()]
-                words.append(str(times.fileno()))
-            child = start(program, words, journal, subprocess.PIPE, subprocess.PIPE, inherited)
-            try:
-                out, problems = child.communicate()
-            except BaseException:
-                child.kill()
-                child.wait()
-                raise
-            finally:
-                if times:
-                    times.close()
-        told = one_line(escape(problems.decode("ascii", "replace").strip()))
+        with ExitStack() as stack:
+            journal, *times = [stack.enter_context(reopened(file)) for file in (recording.journal, recording.times) if file]
+            numbers = [file.fileno() for file in times]
+            child = start(program, [*policy.words(), *map(str, numbers)], journal, subprocess.PIPE, subprocess.PIPE, numbers)
+            stack.callback(child.wait)
+            stack.callback(child.kill)
+            out, problems = child.communicate()
         if child.returncode:
-            fault = InputFault if child.returncode == USAGE else RunFailed
-            raise fault(f"{escape(recording.name)}: {told[:200] or f'status {child.returncode}'}")
-        add_lines(outcome, text_lines(out.decode("ascii", "replace")))
+            told = one_line(escape(problems.decode("ascii", "replace").strip()))[:200] or f"status {child.returncode}"
+            raise (InputFault if child.returncode == USAGE else RunFailed)(f"{escape(recording.name)}: {told}")
+        try:
+            for word, *rest in (line.split(" ") for line in text_lines(out.decode("ascii"))):
+                if word == "node":
+                    outcome.add(rest)
+                else:
+                    outcome.columns[-1].append((int(rest[0]), int(rest[1])))
+        except (ValueError, IndexError) as error:
+            raise RunFailed("the helper policies writes no numbers") from error
     return outcome
-
-
-def add_lines(outcome: Outcome, lines: Sequence[str]) -> None:
-    """Adds what the helper wrote. RunFailed where it can't be read."""
-    try:
-        for line in lines:
-            word, *numbers = line.split(" ")
-            if word == "node":
-                outcome.add([float(number) for number in numbers])
-            else:
-                width, most = map(int, numbers)
-                outcome.columns[-1].append((width, most))
-    except (ValueError, IndexError) as error:
-        raise RunFailed("the helper policies writes no numbers") from error
 
 
 def try_policies(policies: Sequence[Policy], recordings: Sequence[Recording]) -> list[Outcome]:
@@ -252,12 +230,12 @@ def try_policies(policies: Sequence[Policy], recordings: Sequence[Recording]) ->
 
 def policy_table(outcomes: Sequence[Outcome], timed: bool) -> str:
     """Returns a line for each policy."""
-    lines: list[list[object]] = [[*HEAD[:-1], "MiB x hours" if timed else "mean MiB", HEAD[-1]]]
+    lines: list[list[object]] = [[*HEAD, "MiB x hours" if timed else "mean MiB", "huge at end"]]
     for outcome in outcomes:
-        policy, back = outcome.policy, outcome.back / FRAMES_A_MEBIBYTE
-        hours = outcome.held / FRAMES_A_MEBIBYTE / HOUR
-        held = f"{hours:.3f}" if timed else f"{outcome.mean:.1f}"
-        cells = [policy.threshold, policy.scans, policy.takes, outcome.split, outcome.failed, outcome.back, f"{back:.1f}"]
+        policy, back = outcome.policy, f"{outcome.back / FRAMES_A_MEBIBYTE:.1f}"
+        held = f"{outcome.hours:.3f}" if timed else f"{outcome.mean:.1f}"
+        takes = "-" if policy.when == NEVER else policy.take
+        cells = [policy.threshold, policy.scans, takes, outcome.split, outcome.failed, outcome.back, back]
         lines.append([*cells, f"{outcome.peak_mebibytes:.1f}", held, outcome.huge])
     return aligned(lines, 3)
 
@@ -266,3 +244,11 @@ def best_of(outcomes: Sequence[Outcome], mebibytes: float) -> Outcome | None:
     """Returns the policy with the fewest pages split that never holds more than so much; of equal ones the first."""
     fitting = [each for each in outcomes if each.peak_mebibytes <= mebibytes]
     return min(fitting, key=lambda each: each.split) if fitting else None
+
+
+def best_line(best: Outcome | None, mebibytes: float) -> str:
+    """Returns which policy is the best."""
+    if best is None:
+        return f"no policy holds at most {mebibytes:g} MiB"
+    policy, peak = best.policy, best.peak_mebibytes
+    return f"best: threshold {policy.threshold}, scans {policy.scans}: {best.split} pages split, at most {peak:.1f} MiB"

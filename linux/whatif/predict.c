@@ -116,14 +116,13 @@ static thp_code map_all(struct model *model) {
 
 /* Scans, and stores what became of the page. */
 static thp_code scan_page(struct model *model, struct fate *fate) {
-    thp_stats before, after;
+    thp_stats stats;
     thp_scan scan;
-    TRY(thp_node_stats(&model->node, &before));
     TRY(thp_node_scan(&model->node, CALLER, 1, &scan));
-    TRY(thp_node_stats(&model->node, &after));
+    TRY(thp_node_stats(&model->node, &stats));
     if (scan.taken != model->page->is_queued || scan.split + scan.pinned + scan.used != scan.taken) return THP_NO_CODE;
-    fate->outcome = (scan.split ? SPLIT : 0) | (after.underused_split_page ? UNDERUSED : 0) | (scan.pinned ? PINNED : 0);
-    fate->frames = (uint32_t)(after.frames_given - before.frames_given);
+    fate->outcome = (scan.split ? SPLIT : 0) | (stats.underused_split_page ? UNDERUSED : 0) | (scan.pinned ? PINNED : 0);
+    fate->frames = (uint32_t)stats.frames_given;
     return THP_OK;
 }
 

@@ -5,17 +5,18 @@ from __future__ import annotations
 import ctypes
 import os
 from array import array
-from collections import Counter
+from collections import Counter, defaultdict
 from concurrent.futures import ThreadPoolExecutor
+from contextlib import suppress
 from functools import lru_cache
 from typing import Iterable, Mapping, Sequence
 
 from ..common.errors import RunFailed, Unavailable
 from ..common.folios import Folio
+from ..common.helpers import helper
 from ..common.text import escape
-from .libthp import helper_with_libthp
-from .page_plan import RECORD, SET, NotPredictable, plan_page
-from .rows import Fate, Moved, Row, Share, label
+from .page_plan import SET, NotPredictable, plan_page
+from .rows import OFF, Moved, Row, Share, label
 from .snapshot import Snapshot
 
 CHUNK = 2048  # pages that a thread predicts at a time
@@ -35,24 +36,26 @@ class Library:
         self._library.predict.argtypes = [pointer, number, number, pointer, pointer, pointer]
         self._library.words_of.restype = ctypes.c_char_p
 
-    def predict(self, records: bytes, threshold: int, with_given: bool = False) -> tuple[bytes, bytes]:
+    def predict(
+        self, records: Sequence[bytes], frames: Sequence[int], threshold: int, with_given: bool = False
+    ) -> tuple[bytes, bytes]:
         """Returns the fates of packed pages, each an outcome and a number of frames of four bytes; `with_given`: and for each the
-        set of subpages whose frames come back. ModelFault where libthp refuses a call."""
-        count = len(records) // RECORD.size
-        fates, failed = ctypes.create_string_buffer(count * FATE), ctypes.c_uint32()
-        given = ctypes.create_string_buffer(count * SET) if with_given else None
-        code = self._library.predict(records, count, threshold, fates, given, ctypes.byref(failed))
+        set of subpages whose frames come back. RunFailed, with the page's first frame, where libthp refuses a call."""
+        fates, failed = ctypes.create_string_buffer(len(records) * FATE), ctypes.c_uint32()
+        given = ctypes.create_string_buffer(len(records) * SET) if with_given else None
+        code = self._library.predict(b"".join(records), len(records), threshold, fates, given, ctypes.byref(failed))
         if code:
-            raise ModelFault(failed.value, self._library.words_of(code).decode("ascii"))
+            why = self._library.words_of(code).decode("ascii")
+            raise RunFailed(f"the huge page of frame {frames[failed.value]} can't be predicted at {label(threshold)}: {why}")
         return fates.raw, given.raw if given else b""
 
 
-class ModelFault(Exception):
-    """A page whose state libthp refuses, by its place."""
-
-    def __init__(self, place: int, why: str) -> None:
-        super().__init__(why)
-        self.place = place
+def helper_with_libthp(name: str) -> str:
+    """Returns the path of a helper that is linked with libthp. Unavailable where it isn't built."""
+    try:
+        return helper(name)
+    except Unavailable as error:
+        raise Unavailable(f"no libthp (a release has it; in a checkout: make c, then make -C linux): {error}") from error
 
 
 @lru_cache(maxsize=None)
@@ -72,7 +75,7 @@ class Predictor:
         self._locked_are_tried = any(snapshot.locked_are_tried for snapshot in snapshots)
         self._records: dict[bytes, int] = {}  # packed plans, and their numbers
         self._firsts: list[int] = []  # by number: the frame of a page
-        self._numbers = array("I")  # of each folio
+        self.plans = array("I")  # the numbers of the folios' plans
         self._groups: dict[str, Counter[int]] = {}  # pages by number, by control group
         self._owners: Counter[tuple[int, tuple[tuple[int, int], ...]]] = Counter()
         self._fates: dict[int, array[int]] = {}  # by threshold: an outcome and a number of frames of each record
@@ -84,15 +87,9 @@ class Predictor:
                     snapshot.left_out[why.reason.value] += 1
                     continue
                 self.folios.append(folio)
-                self._numbers.append(number)
-                name = name_of(snapshot.names, folio.cgroup)
+                self.plans.append(number)
+                name = snapshot.names.get(folio.cgroup, f"inode {folio.cgroup}" if folio.cgroup else "none")
                 self._groups.setdefault(name, Counter())[number] += 1
-
-    @property
-    def partly(self) -> set[int]:
-        """The frames of the pages that are partly mapped."""
-        flags = [plan[2 * SET + 2] for plan in self._records]
-        return {folio.frame for folio, number in zip(self.folios, self._numbers) if flags[number]}
 
     def _number(self, folio: Folio, locked_are_tried: bool) -> int:
         """Returns the number of a page's plan, a new one where no page had it. Raises NotPredictable."""
@@ -104,28 +101,20 @@ class Predictor:
 
     def _run(self, thresholds: Iterable[int]) -> None:
         """Predicts what was not predicted yet at these thresholds, which run side by side."""
-        every = [self._fates.setdefault(threshold, array("I")) for threshold in dict.fromkeys(thresholds)]
         records = list(self._records)
         jobs = [
             (threshold, first)
-            for threshold, fates in zip(dict.fromkeys(thresholds), every)
-            for first in range(len(fates) // 2, len(records), CHUNK)
+            for threshold in dict.fromkeys(thresholds)
+            for first in range(len(self._fates.setdefault(threshold, array("I"))) // 2, len(records), CHUNK)
         ]
 
         def predict(job: tuple[int, int]) -> bytes:
-            threshold, first = job
-            return self._predict(b"".join(records[first : first + CHUNK]), first, threshold)[0]
+            threshold, part = job[0], slice(job[1], job[1] + CHUNK)
+            return self._library.predict(records[part], self._firsts[part], threshold)[0]
 
         with ThreadPoolExecutor(min(4, os.cpu_count() or 1)) as pool:
             for (threshold, _), fates in zip(jobs, pool.map(predict, jobs)):
                 self._fates[threshold].frombytes(fates)
-
-    def _predict(self, records: bytes, first: int, threshold: int, with_given: bool = False) -> tuple[bytes, bytes]:
-        try:
-            return self._library.predict(records, threshold, with_given)
-        except ModelFault as fault:
-            frame = self._firsts[first + fault.place]
-            raise RunFailed(f"the huge page of frame {frame} can't be predicted at {label(threshold)}: {fault}") from fault
 
     def _row(self, threshold: int, counts: Mapping[int, int]) -> Row:
         """Returns the sums of pages, given how many there are of each plan."""
@@ -144,7 +133,7 @@ class Predictor:
     def run(self, thresholds: Sequence[int]) -> list[Row]:
         """Returns the sums for these thresholds."""
         self._run(thresholds)
-        counts = Counter(self._numbers)
+        counts = Counter(self.plans)
         return [self._row(threshold, counts) for threshold in thresholds]
 
     def by_group(self, thresholds: Sequence[int]) -> dict[str, list[Row]]:
@@ -157,80 +146,70 @@ class Predictor:
         entries, the lowest number where that is equal; lost PMD mappings count with each."""
         self._run([threshold])
         if not self._owners:
-            self._owners.update((number, tuple(owners_of(folio).items())) for folio, number in zip(self.folios, self._numbers))
-        out: dict[int, Share] = {}
-        for (number, by), count in self._owners.items():
-            if not by:
-                continue
-            outcome, frames = self._fates[threshold][2 * number : 2 * number + 2]
-            share = out.setdefault(owner(dict(by)), Share())
-            share.pages += count
-            if outcome & SPLIT:
-                share.split += count
-                share.frames += count * frames
-                for process, lost in by:
-                    out.setdefault(process, Share()).lost += count * lost
+            self._owners.update((number, owners_of(folio)) for folio, number in zip(self.folios, self.plans))
+        out: dict[int, Share] = defaultdict(Share)
+        for (number, owners), count in self._owners.items():
+            frames = self.frames_back(threshold, number)
+            for process, _ in owners[:1]:
+                out[process].pages += count
+                out[process].split += count if frames is not None else 0
+                out[process].frames += count * (frames or 0)
+            for process, lost in owners if frames is not None else ():
+                out[process].lost += count * lost
         return out
-
-    def shares(self, thresholds: Sequence[int]) -> dict[int, dict[int, Share]]:
-        """Returns what each process has of it, by threshold."""
-        self._run(thresholds)
-        return {threshold: self.by_process(threshold) for threshold in thresholds}
-
-    def fates(self, threshold: int) -> dict[int, Fate]:
-        """Returns the fate of each page that can be predicted, by frame."""
-        self._run([threshold])
-        return {folio.frame: self._fate(threshold, number) for folio, number in zip(self.folios, self._numbers)}
-
-    def _fate(self, threshold: int, number: int) -> Fate:
-        outcome, frames = self._fates[threshold][2 * number : 2 * number + 2]
-        return Fate(frames if outcome & SPLIT else None, bool(outcome & UNDERUSED), bool(outcome & PINNED))
 
     def frames_given(self, threshold: int) -> dict[int, int]:
         """Returns of each page that is split the subpages whose frames come back, by frame."""
-        fates, given = self._predict(b"".join(self._records), 0, threshold, True)
+        fates, given = self._library.predict(list(self._records), self._firsts, threshold, True)
         sets = [int.from_bytes(given[at : at + SET], "little") for at in range(0, len(given), SET)]
         split = [outcome & SPLIT for outcome in array("I", fates)[::2]]
-        return {folio.frame: sets[number] for folio, number in zip(self.folios, self._numbers) if split[number]}
+        return {folio.frame: sets[number] for folio, number in zip(self.folios, self.plans) if split[number]}
 
-    def moved_rows(
-        self, first: Sequence[Folio | None], second: Sequence[Folio | None], thresholds: Sequence[int]
-    ) -> dict[int, Moved]:
+    def moved_rows(self, pairs: Iterable[tuple[Folio | None, Folio | None]], thresholds: Sequence[int]) -> dict[int, Moved]:
         """Returns for each threshold by how many split pages and frames a row differs at most between two readings of the same
         pages. None: it wasn't a huge page then."""
 
         def number_of(folio: Folio | None) -> int | None:
-            try:
+            with suppress(NotPredictable):
                 return self._number(folio, self._locked_are_tried) if folio else None
-            except NotPredictable:
-                return None
+            return None
 
-        pairs = [(number_of(one), number_of(other)) for one, other in zip(first, second)]
+        numbers = [(number_of(first), number_of(second)) for first, second in pairs]
         self._run(thresholds)
         out: dict[int, Moved] = {}
         for threshold in thresholds:
             split = frames = 0
-            for pair in pairs:
-                given = [None if number is None else self._fate(threshold, number).frames for number in pair]
-                split += (given[0] is None) != (given[1] is None)
-                frames += abs((given[0] or 0) - (given[1] or 0))
+            for pair in numbers:
+                first, second = (None if number is None else self.frames_back(threshold, number) for number in pair)
+                split += (first is None) != (second is None)
+                frames += abs((first or 0) - (second or 0))
             out[threshold] = Moved(split, frames)
         return out
 
+    def frames_back(self, threshold: int, plan: int) -> int | None:
+        """Returns how many frames come back of a page with a plan of this number; None where it stays whole."""
+        outcome, frames = self._fates[threshold][2 * plan : 2 * plan + 2]
+        return frames if outcome & SPLIT else None
 
-def name_of(names: Mapping[int, str], cgroup: int) -> str:
-    """Returns the name of a control group by its inode."""
-    return names.get(cgroup, f"inode {cgroup}" if cgroup else "none")
+    def find_highest(self, frames: int) -> int | None:
+        """Returns the highest threshold that gives at least so many frames back, found by halving: a lower threshold splits
+        all that a higher one does. None where not even 0 gives so much."""
+
+        def gives(threshold: int) -> bool:
+            return self.run([threshold])[0].frames >= frames
+
+        if gives(OFF):
+            return OFF
+        low, high = 0, OFF
+        while high - low > 1:  # `high` doesn't give so much
+            middle = (low + high) // 2
+            low, high = (middle, high) if gives(middle) else (low, middle)
+        return low if gives(low) else None
 
 
-def owners_of(folio: Folio) -> dict[int, int]:
-    """Returns the processes that map a page, with how many PMD mappings each has of it."""
-    by: dict[int, int] = {}
+def owners_of(folio: Folio) -> tuple[tuple[int, int], ...]:
+    """Returns the processes that map a page, with how many PMD mappings each has of it. The page counts with the first one."""
+    by: Counter[int] = Counter()
     for mapping in folio.mappings:
-        by[mapping.process] = by.get(mapping.process, 0) + mapping.by_pmd
-    return by
-
-
-def owner(by: Mapping[int, int]) -> int:
-    """Returns the process with which a page counts, of those that map it, with the PMD mappings of each."""
-    return min(by, key=lambda process: (-by[process], process))
+        by[mapping.process] += mapping.by_pmd
+    return tuple(sorted(by.items(), key=lambda item: (-item[1], item[0])))

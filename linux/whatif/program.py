@@ -4,146 +4,173 @@ from __future__ import annotations
 
 import argparse
 import json
+import os
 import sys
 import time
-from collections import Counter
-from typing import TYPE_CHECKING, Callable, NoReturn, Sequence
+from contextlib import contextmanager, suppress
+from typing import Callable, Iterator, NoReturn, Sequence
 
-from ..common.errors import DIFFERS, DONE, InputFault
+from ..common.errors import DIFFERS, DONE, InputFault, Unavailable, signals_wait
+from ..common.files import NewFile
+from ..common.text import escape
 from ..common.tool import run_tool
-from .options import parse_choice, parse_look_options, parser
-from .outputs import Output, open_output
+from .look import LookOptions, ProcessChoice, SnapshotTaker
+from .options import parser
 from .predictor import Predictor, load_library
-from .processes import ProcessChoice
-from .report import look_json, look_of, moved_rows, parts_json, rows_json, status_of
-from .rights import demand_root
-from .rows import DEFAULT, OFF, find_highest, thresholds_of, with_today
-from .look import SnapshotTaker, show_progress
-from .snapshot import NAME, Snapshot, list_notes, warnings
-from .table import FRAMES_A_MEBIBYTE, cost_table, group_table, last_line, process_table, row_json, share_json, table
-
-if TYPE_CHECKING:
-    from .policies import Outcome as PolicyOutcome
-    from .watch import Look
+from .report import FRAMES_A_MEBIBYTE, Report, cost_table, group_table, last_line, process_table, report_of, row_json, shares_json, table
+from .rows import OFF, label
+from .snapshot import NAME, Snapshot, list_notes
 
 SLOW = 1.0  # seconds after which progress is shown
 
 
-def progress() -> Callable[[str, int, int], None] | None:
-    """Progress on a terminal, from the first second on."""
-    if not sys.stderr.isatty():
-        return None
+class Output(NewFile):
+    """A new file, opened before the work, so that a path that can't be used is reported first."""
+
+    def __init__(self, path: str) -> None:
+        super().__init__(path)
+        self._path = path
+
+    def write(self, text: str) -> None:
+        """Writes a text. InputFault where that isn't possible."""
+        try:
+            self.file.write(text)
+        except OSError as error:
+            raise InputFault(f"{escape(self._path)} can't be written: {error.strerror}") from error
+
+    def has_text(self) -> bool:
+        """Returns whether the file, which is written whole then, has any text. InputFault where it can't be written."""
+        try:
+            self.file.flush()
+            return os.fstat(self.file.fileno()).st_size > 0
+        except OSError as error:
+            raise InputFault(f"{escape(self._path)} can't be written: {error.strerror}") from error
+
+
+@contextmanager
+def open_output(path: str | None) -> Iterator[Output | None]:
+    """Gives the output of a path, or nothing where there is no path or it is `-`. The file is removed again where the
+    work fails, or writes nothing."""
+    if path is None or path == "-":
+        yield None
+        return
+    out, is_done = None, False
+    try:
+        with signals_wait():
+            out = Output(path)
+        yield out
+        is_done = out.has_text()
+    finally:
+        if out and not is_done:
+            out.remove()
+        with suppress(OSError):
+            if out:
+                out.close()
+
+
+def demand_root() -> None:
+    """Unavailable for other users: page tables and frames of other processes are root's alone."""
+    if os.geteuid() != 0:
+        raise Unavailable("not root: frame numbers, other processes' memory and BPF are for root")
+
+
+def choose(options: argparse.Namespace) -> ProcessChoice:
+    """Returns what is to be looked at. InputFault where nothing is selected, Unavailable where nothing can be looked at."""
+    if not (options.pid or options.cgroup or options.all):
+        raise InputFault(f"{options.command} needs --pid, --cgroup or --all (--help has the options)")
+    demand_root()
+    return ProcessChoice(options.pid, options.cgroup, options.all)
+
+
+def taker(options: argparse.Namespace) -> SnapshotTaker:
+    """Returns what takes looks with these options; on a terminal progress is shown, from the first second on."""
     began = time.monotonic()
 
-    def show_late(what: str, done: int, of: int) -> None:
+    def show(what: str, done: int, of: int) -> None:
         if time.monotonic() - began > SLOW:
-            show_progress(what, done, of)
+            print(f"\r{what}: {done} of {of}\033[K", end="\n" if done == of else "", file=sys.stderr, flush=True)
 
-    return show_late
-
-
-def take_look(options: argparse.Namespace, choice: ProcessChoice) -> Snapshot:
-    """Takes one snapshot with these options."""
-    return SnapshotTaker(parse_look_options(options), progress()).take(choice)
+    how = LookOptions(options.orders, options.with_kernel, options.queued == "all", memory=options.memory)
+    return SnapshotTaker(how, show if sys.stderr.isatty() and options.command != "watch" else None)
 
 
-def read_snapshots(options: argparse.Namespace) -> list[Snapshot]:
-    """Returns the snapshots of files."""
+def take_snapshots(options: argparse.Namespace, choice: ProcessChoice | None) -> list[Snapshot]:
+    """Looks, or reads the snapshots of files where no processes are chosen."""
+    if choice:
+        return [taker(options).take(choice)]
     from .stored import StoredReader
 
     reader = StoredReader(options.memory)
     return [reader.read(path) for path in options.files]
 
 
+def command_tables(options: argparse.Namespace) -> int:
+    """Prints the tables, or the JSON object, of a look or of stored ones."""
+    choice = None if options.files else choose(options)
+    load_library()
+    with open_output(options.svg) as svg:
+        return print_tables(options, take_snapshots(options, choice), svg)
+
+
 def print_tables(options: argparse.Namespace, snapshots: Sequence[Snapshot], svg: Output | None) -> int:
-    """Prints the tables, or the JSON object, of a look or of stored ones; returns the status."""
-    predictor, look = Predictor(*snapshots), snapshots[0] if options.command == "now" else None
-    today = next((snapshot.today for snapshot in snapshots if snapshot.today is not None), None)
-    given = thresholds_of(options.thresholds) if options.thresholds else DEFAULT
-    thresholds = with_today(given, None if options.thresholds else today)
-    began = time.monotonic()
-    rows = predictor.run(thresholds)
-    shares = predictor.shares(thresholds) if options.by_process else {}
+    """Prints the tables, or the JSON object; returns the status."""
+    predictor = Predictor(*snapshots)
+    report = report_of(predictor, snapshots, options.thresholds)
+    thresholds = [row.threshold for row in report.rows]
+    shares = {each: predictor.by_process(each) for each in thresholds} if options.by_process else {}
     groups = predictor.by_group(thresholds) if options.by_cgroup else {}
-    moved = moved_rows(predictor, snapshots, thresholds)
-    left_out = sum((snapshot.left_out for snapshot in snapshots), Counter[str]())
     if svg:
         from .picture import picture
 
-        svg.write(picture(rows, today))
+        svg.write(picture(report.rows, report.today))
     if not predictor.folios:
         print("no huge pages are mapped here", file=sys.stderr)
     if options.json:
-        out = rows_json(rows, today, snapshots, moved)
-        out.update(parts_json(shares, groups, predictor.names, today))
-        out.update(look_json(look, time.monotonic() - began))
-        print(json.dumps(out, indent=1))
-        return status_of(snapshots)
-    notes = list_notes(look, moved) if look else [line for each in snapshots for line in warnings(each, moved)]
-    parts = [table(rows, today)] if predictor.folios else []
-    parts += [process_table(shares, predictor.names)] if options.by_process and parts else []
-    parts += [group_table(groups)] if options.by_cgroup and parts else []
-    print("\n".join([*notes, "\n\n".join(parts), last_line(left_out)] if parts else [*notes, last_line(left_out)]))
-    return status_of(snapshots)
-
-
-def command_now(options: argparse.Namespace) -> int:
-    """Looks, and prints the tables."""
-    check_thresholds(options)
-    choice = parse_choice(options)
-    demand_root()
-    load_library()
-    with open_output(options.svg) as svg:
-        return print_tables(options, [take_look(options, choice)], svg)
+        parts: dict[str, object] = {}
+        if shares:
+            parts["by_process"] = {label(each): shares_json(found, predictor.names) for each, found in shares.items()}
+        if groups:
+            parts["by_cgroup"] = {name: [row_json(row, report.today) for row in rows] for name, rows in groups.items()}
+        print(json.dumps(report.to_json(parts, is_look=not options.files), indent=1))
+        return report.status
+    tables = [table(report.rows, report.today)] if predictor.folios else []
+    tables += [process_table(shares, predictor.names)] if options.by_process and tables else []
+    tables += [group_table(groups)] if options.by_cgroup and tables else []
+    notes = report.warnings() if options.files else list_notes(snapshots[0], report.moved)
+    print("\n".join([*notes, *(["\n\n".join(tables)] if tables else []), last_line(report.left_out)]))
+    return report.status
 
 
 def command_snapshot(options: argparse.Namespace) -> int:
     """Looks, and writes what was read."""
     from .stored import json_parts
 
-    choice = parse_choice(options)
-    demand_root()
+    choice = choose(options)
     with open_output(options.output) as out:
-        snapshot = take_look(options, choice)
+        snapshot = taker(options).take(choice)
         for line in list_notes(snapshot) + [last_line(snapshot.left_out)]:
             print(line, file=sys.stderr)
         for part in json_parts(snapshot):
             (out.write if out else sys.stdout.write)(part)
-    return status_of([snapshot])
-
-
-def command_what_if(options: argparse.Namespace) -> int:
-    """Prints the tables of stored snapshots."""
-    check_thresholds(options)
-    load_library()
-    with open_output(options.svg) as svg:
-        return print_tables(options, read_snapshots(options), svg)
+    return Report([snapshot]).status
 
 
 def command_target(options: argparse.Namespace) -> int:
     """Finds the highest threshold that gives back so much."""
     if options.files and (options.pid or options.cgroup or options.all):
         raise InputFault("target takes files, or --pid, --cgroup or --all, not both")
-    if options.files:
-        load_library()
-        snapshots = read_snapshots(options)
-    else:
-        choice = parse_choice(options)
-        demand_root()
-        load_library()
-        snapshots = [take_look(options, choice)]
+    choice = None if options.files else choose(options)
+    load_library()
+    snapshots = take_snapshots(options, choice)
     predictor = Predictor(*snapshots)
-    found = find_highest(predictor, -int(-options.mebibytes * FRAMES_A_MEBIBYTE // 1))
-    names = predictor.names
-    threshold = 0 if found is None else found
-    row, shares = predictor.run([threshold])[0], predictor.by_process(threshold)
-    moved = moved_rows(predictor, snapshots, [threshold])
+    found = predictor.find_highest(-int(-options.mebibytes * FRAMES_A_MEBIBYTE // 1))
+    report = report_of(predictor, snapshots, [found or 0])
+    row, shares = report.rows[0], predictor.by_process(found or 0)
     if options.json:
         out = {"asked": options.mebibytes, "reached": found is not None, "row": row_json(row, None)}
-        out["cost"] = [share_json(process, names.get(process, "?"), share) for process, share in sorted(shares.items())]
-        rest = rows_json([], None, snapshots, moved)
-        print(json.dumps({**out, "could_move": rest["could_move"], "unread": rest["unread"]}, indent=1))
-        return status_of(snapshots)
+        rest = report.to_json({"cost": shares_json(shares, predictor.names)})
+        print(json.dumps({**out, **{name: rest[name] for name in ("cost", "could_move", "unread")}}, indent=1))
+        return report.status
     if found is None:
         print(f"no threshold gives back {options.mebibytes:g} MiB: 0 gives {row.mebibytes:.1f} MiB. What 0 costs:")
     elif found == OFF:
@@ -151,16 +178,8 @@ def command_target(options: argparse.Namespace) -> int:
     else:
         given = f"gives back {row.mebibytes:.1f} MiB and splits {row.split} huge pages"
         print(f"max_ptes_none {found} {given}. What it costs:")
-    print(cost_table(shares, names))
-    for line in (line for snapshot in snapshots for line in warnings(snapshot, moved)):
-        print(line)
-    return status_of(snapshots)
-
-
-def check_thresholds(options: argparse.Namespace) -> None:
-    """InputFault where the thresholds can't be used: before the work, not after it."""
-    if options.thresholds is not None:
-        thresholds_of(options.thresholds)
+    print("\n".join([cost_table(shares, predictor.names), *report.warnings()]))
+    return report.status
 
 
 def command_watch(options: argparse.Namespace) -> int:
@@ -168,62 +187,39 @@ def command_watch(options: argparse.Namespace) -> int:
     from .metrics import MetricsFile
     from .watch import watch
 
-    check_thresholds(options)
-    choice = parse_choice(options)
-    demand_root()
+    choice = choose(options)
     load_library()
     metrics = None if options.prometheus is None else MetricsFile(options.prometheus)
-    taker = SnapshotTaker(parse_look_options(options))
-    given = thresholds_of(options.thresholds) if options.thresholds else DEFAULT
-    status = DONE
+    looks, status = taker(options), DONE
 
-    def look_once() -> Look:
+    def look_once() -> Report:
         nonlocal status
-        snapshot = taker.take(choice)
-        thresholds = with_today(given, None if options.thresholds else snapshot.today)
-        predictor, began = Predictor(snapshot), time.monotonic()
-        rows, moved = predictor.run(thresholds), moved_rows(predictor, [snapshot], thresholds)
-        status = status_of([snapshot])
-        return look_of(snapshot, rows, time.monotonic() - began, moved)
+        snapshot = looks.take(choice)
+        report = report_of(Predictor(snapshot), [snapshot], options.thresholds)
+        status = report.status
+        if metrics:
+            metrics.write(report)
+        return report
 
-    also = metrics.write if metrics else lambda look: None
-    watch(look_once, options.seconds, options.rounds, as_json=options.json, also=also)
+    watch(look_once, options.seconds, options.rounds, as_json=options.json)
     return status
 
 
 def command_verify(options: argparse.Namespace) -> int:
     """Tries predictions."""
     from ..common.user import user_for
-    from .verify import THRESHOLDS, TrialOptions, verify
+    from .verify import verify
 
-    check_thresholds(options)
     demand_root()
     load_library()
-    user = user_for(options.user)
-    task = TrialOptions(
-        thresholds=thresholds_of(options.thresholds) if options.thresholds else THRESHOLDS,
-        rounds=options.rounds,
-        seed=options.seed,
-        pages=options.pages,
-        command=options.words,
-        user=user,
-        after=options.after,
-        running=options.running,
-        enabled=options.enabled or "",
-        change=options.change,
-        with_kernel=not options.no_kernel,
-        wait=options.wait,
-        verbose=options.verbose,
-        keep=options.keep,
-    )
-    return verify(task)
+    return verify(options, user_for(options.user))
 
 
 def command_policies(options: argparse.Namespace) -> int:
     """Tries policies on journals."""
     from ..common.checker import find_checker
-    from .policies import IllegalJournal, best_of, policies_of, policy_table, read_recording, try_policies
-    from .policies_picture import policies_picture
+    from .picture import policies_picture
+    from .policies import IllegalJournal, best_line, best_of, policies_of, policy_table, read_recording, try_policies
 
     policies = policies_of(options.threshold, options.scan, options.take)
     times: Sequence[str | None] = options.times or [None] * len(options.journals)
@@ -257,18 +253,10 @@ def command_policies(options: argparse.Namespace) -> int:
     return DONE
 
 
-def best_line(best: PolicyOutcome | None, mebibytes: float) -> str:
-    """Returns which policy is the best."""
-    if best is None:
-        return f"no policy holds at most {mebibytes:g} MiB"
-    policy, peak = best.policy, best.peak_mebibytes
-    return f"best: threshold {policy.threshold}, scans {policy.scans}: {best.split} pages split, at most {peak:.1f} MiB"
-
-
 COMMANDS: dict[str, Callable[[argparse.Namespace], int]] = {
-    "now": command_now,
+    "now": command_tables,
     "snapshot": command_snapshot,
-    "what-if": command_what_if,
+    "what-if": command_tables,
     "target": command_target,
     "watch": command_watch,
     "verify": command_verify,

@@ -1,89 +1,172 @@
-"""Reports of looks as JSON objects and as looks of `watch`, and their status."""
+"""What looks give: rows, what is in none of them, what was not read, and the status; as tables for people and as JSON for programs."""
 
 from __future__ import annotations
 
 import time
 from collections import Counter
+from dataclasses import dataclass, field
 from typing import Any, Mapping, Sequence
 
 from ..common.errors import DONE, INCONCLUSIVE
 from .predictor import Predictor
-from .rows import Moved, Row, Share, label
-from .snapshot import Snapshot, guess_of, warnings
-from .table import last_line, row_json, share_json
-from .watch import Look
+from .rows import DEFAULT, Moved, Row, Share, label, with_today
+from .snapshot import Snapshot, counted, guess_of, warnings
+
+HEAD = ("threshold", "pages split", "partly mapped", "underused", "pinned", "frames back", "MiB back", "pages kept")
+FRAMES_A_MEBIBYTE = 256
 
 
-def moved_rows(predictor: Predictor, snapshots: Sequence[Snapshot], thresholds: Sequence[int]) -> dict[int, Moved]:
-    """Returns by how much each row could differ, since pages changed while they were read."""
-    pairs = [pair for snapshot in snapshots for pair in snapshot.changed_pages]
-    return predictor.moved_rows([first for first, _ in pairs], [second for _, second in pairs], thresholds)
+@dataclass
+class Report:
+    """The rows of a look, or of stored ones together."""
 
+    snapshots: Sequence[Snapshot]
+    rows: list[Row] = field(default_factory=list)
+    moved: dict[int, Moved] = field(default_factory=dict)  # how far each row could differ: pages changed while they were read
+    runs: float = 0.0  # seconds of the prediction
+    ended: float = field(default_factory=time.time)  # seconds since 1970
 
-def status_of(snapshots: Sequence[Snapshot]) -> int:
-    """Returns the status: INCONCLUSIVE where something that could change the answer wasn't read."""
-    return INCONCLUSIVE if any(count for snapshot in snapshots for count in snapshot.unread.values()) else DONE
+    @property
+    def today(self) -> int | None:
+        """The threshold of the machine."""
+        return next((snapshot.today for snapshot in self.snapshots if snapshot.today is not None), None)
 
+    @property
+    def left_out(self) -> Counter[str]:
+        """Pages, parts of pages and processes that are in no row, by reason."""
+        return sum((snapshot.left_out for snapshot in self.snapshots), Counter[str]())
 
-def rows_json(
-    rows: Sequence[Row], today: int | None, snapshots: Sequence[Snapshot], moved: Mapping[int, Moved]
-) -> dict[str, Any]:
-    """Returns the rows, by how much each could differ, and what is in none of them, as JSON."""
-    return {
-        "rows": [row_json(row, today) for row in rows],
-        "could_move": {label(t): {"split": each.split, "frames_back": each.frames} for t, each in moved.items() if any(each)},
-        "left_out": sum((snapshot.left_out for snapshot in snapshots), Counter[str]()),
-        "unread": sum((snapshot.unread for snapshot in snapshots), Counter[str]()),
-    }
+    @property
+    def unread(self) -> Counter[str]:
+        """What couldn't be read and could change the rows, by reason."""
+        return sum((snapshot.unread for snapshot in self.snapshots), Counter[str]())
 
+    @property
+    def status(self) -> int:
+        """INCONCLUSIVE where something that could change the answer wasn't read."""
+        return INCONCLUSIVE if self.unread else DONE
 
-def parts_json(
-    shares: dict[int, dict[int, Share]], groups: dict[str, list[Row]], names: dict[int, str], today: int | None
-) -> dict[str, Any]:
-    """Returns the tables by process and by control group, where they were asked for, as JSON."""
-    out: dict[str, Any] = {}
-    if shares:
-        out["by_process"] = {
-            label(t): [share_json(p, names.get(p, "?"), share) for p, share in sorted(each.items())]
-            for t, each in shares.items()
+    def warnings(self) -> list[str]:
+        """Returns why the numbers may be off, a line each."""
+        return [line for snapshot in self.snapshots for line in warnings(snapshot, self.moved)]
+
+    def notes(self) -> list[str]:
+        """Returns what a reader of one look's rows should know, a line each."""
+        one, left_out = self.snapshots[0], self.left_out
+        lines = [one.note, guess_of(one) if one.lacking else "", last_line(left_out) if left_out else ""]
+        return [line for line in lines if line] + self.warnings()
+
+    def to_json(self, parts: Mapping[str, object] | None = None, is_look: bool = True) -> dict[str, Any]:
+        """Returns it as a JSON object, with more parts, and with what there is about the look itself."""
+        out: dict[str, Any] = {
+            "rows": [row_json(row, self.today) for row in self.rows],
+            "could_move": {label(t): {"split": each.split, "frames_back": each.frames} for t, each in self.moved.items() if any(each)},
+            "left_out": self.left_out,
+            "unread": self.unread,
+            **(parts or {}),
         }
-    if groups:
-        out["by_cgroup"] = {name: [row_json(row, today) for row in each] for name, each in groups.items()}
-    return out
+        one, seconds = self.snapshots[0], {"runs": self.runs}
+        if is_look:
+            out["looked_at"], out["note"], out["lacking"] = one.looked_at, one.note, one.lacking
+            out["queues_read"], out["read_twice"], out["of_these_changed"] = not one.lacking, one.sampled, one.changed
+            out["at"], out["kernel"], out["sums"] = one.at, one.kernel, vars(one.sums)
+            seconds = {**one.spent, "look": one.seconds, "runs": self.runs}
+        return {**out, "seconds": {step: round(value, 3) for step, value in seconds.items()}}
 
 
-def look_json(snapshot: Snapshot | None, runs: float) -> dict[str, Any]:
-    """Returns what a JSON object contains about the look itself."""
-    if snapshot is None:
-        return {"seconds": {"runs": round(runs, 3)}}
-    spent = {step: round(value, 3) for step, value in snapshot.spent.items()}
+def report_of(predictor: Predictor, snapshots: Sequence[Snapshot], given: Sequence[int] | None) -> Report:
+    """Returns the report of these snapshots, at the thresholds that are given, or at some with the machine's own."""
+    began, report = time.monotonic(), Report(snapshots)
+    thresholds = with_today(given or DEFAULT, None if given else report.today)
+    report.rows = predictor.run(thresholds)
+    report.moved = predictor.moved_rows([pair for snapshot in snapshots for pair in snapshot.changed_pages], thresholds)
+    report.runs = time.monotonic() - began
+    return report
+
+
+def aligned(lines: Sequence[Sequence[object]], left: int = 0) -> str:
+    """Returns lines of cells, right-aligned except the first `left` columns."""
+    texts = [[str(cell) for cell in line] for line in lines]
+    widths = [max(len(line[column]) for line in texts) for column in range(len(texts[0]))]
+    out = []
+    for line in texts:
+        cells = [c.ljust(w) if i < left else c.rjust(w) for i, (c, w) in enumerate(zip(line, widths))]
+        out.append("  ".join(cells).rstrip())
+    return "\n".join(out)
+
+
+def table(rows: Sequence[Row], today: int | None = None) -> str:
+    """Returns a line for each threshold; the machine's own is marked."""
+    lines: list[list[object]] = [[*HEAD, ""]]
+    for row in rows:
+        cells = [label(row.threshold), row.split, row.partly, row.underused, row.pinned, row.frames]
+        mark = "<- today" if row.threshold == today else ""
+        lines.append([*cells, f"{row.mebibytes:.1f}", row.kept, mark])
+    return aligned(lines)
+
+
+def group_table(groups: dict[str, list[Row]]) -> str:
+    """Returns a line for each control group: its huge pages, then MiB back by threshold; most pages first."""
+    first: list[Row] = next(iter(groups.values()), [])
+    lines: list[list[object]] = [["control group", "pages", *(label(row.threshold) for row in first)]]
+    for name, rows in sorted(groups.items(), key=lambda item: (-item[1][0].pages, item[0])):
+        lines.append([name, rows[0].pages, *(f"{row.mebibytes:.1f}" for row in rows)])
+    return "MiB back by control group:\n" + aligned(lines, 1)
+
+
+def process_table(shares: dict[int, dict[int, Share]], names: dict[int, str]) -> str:
+    """Returns a line for each process: its huge pages, then MiB back by threshold; most pages first. `shares`: by
+    threshold."""
+    lines: list[list[object]] = [["process", "name", "pages", *(label(threshold) for threshold in shares)]]
+    first: dict[int, Share] = next(iter(shares.values()), {})
+    for process in sorted(first, key=lambda number: (-first[number].pages, number)):
+        cells = [f"{each.get(process, Share()).mebibytes:.1f}" for each in shares.values()]
+        lines.append([process, names.get(process, "?"), first[process].pages, *cells])
+    return "MiB back by process (a shared page counts once):\n" + aligned(lines, 2)
+
+
+def cost_table(shares: dict[int, Share], names: dict[int, str]) -> str:
+    """Returns what a threshold costs: huge mappings lost by each process, most first."""
+    lines: list[list[object]] = [["process", "name", "huge mappings lost", "pages split", "MiB back"]]
+    for process, share in sorted(shares.items(), key=lambda item: (-item[1].lost, item[0])):
+        if share.lost or share.split:
+            lines.append([process, names.get(process, "?"), share.lost, share.split, f"{share.mebibytes:.1f}"])
+    return aligned(lines, 2)
+
+
+def last_line(left_out: Mapping[str, int]) -> str:
+    """Returns what was left out, in one line: how much, and why."""
+    parts = counted(left_out)
+    more = f"; {len(parts) - 4} more (--json has them)" if len(parts) > 4 else ""
+    return "left out: " + ("; ".join(parts[:4]) or "nothing") + more
+
+
+def row_json(row: Row, today: int | None) -> dict[str, Any]:
+    """Returns a row as a JSON object."""
     return {
-        "looked_at": snapshot.looked_at,
-        "note": snapshot.note,
-        "lacking": snapshot.lacking,
-        "queues_read": not snapshot.lacking,
-        "read_twice": snapshot.sampled,
-        "of_these_changed": snapshot.changed,
-        "at": snapshot.at,
-        "kernel": snapshot.kernel,
-        "sums": vars(snapshot.sums),
-        "seconds": {**spent, "look": round(snapshot.seconds, 3), "runs": round(runs, 3)},
+        "threshold": label(row.threshold) if label(row.threshold) == "off" else row.threshold,
+        "today": row.threshold == today,
+        "pages": row.pages,
+        "split": row.split,
+        "partly_mapped": row.partly,
+        "underused": row.underused,
+        "pinned": row.pinned,
+        "frames_back": row.frames,
+        "mebibytes_back": round(row.mebibytes, 3),
+        "kept": row.kept,
     }
 
 
-def look_of(snapshot: Snapshot, rows: list[Row], runs: float, moved: Mapping[int, Moved]) -> Look:
-    """Returns a look of `watch`, given the rows, the seconds that they took, and by how much each could differ."""
-    notes = ([snapshot.note] if snapshot.note else []) + ([guess_of(snapshot)] if snapshot.lacking else [])
-    notes += [last_line(snapshot.left_out)] if any(snapshot.left_out.values()) else []
-    return Look(
-        rows,
-        snapshot.today,
-        notes + warnings(snapshot, moved),
-        left_out=sum(snapshot.left_out.values()),
-        unread=sum(snapshot.unread.values()),
-        is_read=not snapshot.lacking,
-        changed=snapshot.changed,
-        seconds=snapshot.seconds,
-        ended=time.time(),
-        report={**rows_json(rows, snapshot.today, [snapshot], moved), **look_json(snapshot, runs)},
-    )
+def shares_json(shares: dict[int, Share], names: dict[int, str]) -> list[dict[str, Any]]:
+    """Returns the shares of processes as JSON."""
+    return [
+        {
+            "process": process,
+            "name": names.get(process, "?"),
+            "pages": share.pages,
+            "split": share.split,
+            "frames_back": share.frames,
+            "huge_mappings_lost": share.lost,
+        }
+        for process, share in sorted(shares.items())
+    ]

@@ -8,7 +8,7 @@ from __future__ import annotations
 
 import re
 from dataclasses import dataclass
-from typing import NamedTuple, Protocol, Sequence
+from typing import NamedTuple, Sequence
 
 from ..common.errors import InputFault
 from ..common.text import escape
@@ -66,21 +66,6 @@ class Row:
         return self.frames * 4 / 1024
 
 
-class Rows(Protocol):
-    """What predicts the sums for thresholds."""
-
-    def run(self, thresholds: Sequence[int]) -> list[Row]:
-        """Returns the sums for these thresholds."""
-
-
-class Fate(NamedTuple):
-    """What the shrinker does with a page."""
-
-    frames: int | None = None  # that a split gives back; None: it stays whole
-    is_underused: bool = False  # and not partly mapped
-    is_pinned: bool = False  # its split fails
-
-
 class Moved(NamedTuple):
     """By how much a row could differ, since pages changed while they were read."""
 
@@ -97,19 +82,7 @@ class Share:
     frames: int = 0
     lost: int = 0  # PMD mappings
 
-
-def find_highest(predictor: Rows, frames: int) -> int | None:
-    """Returns the highest threshold that gives at least so many frames back, found by halving: a lower threshold splits
-    all that a higher one does. None where not even 0 gives so much."""
-    if predictor.run([OFF])[0].frames >= frames:
-        return OFF
-    low, high = 0, OFF
-    if predictor.run([0])[0].frames < frames:
-        return None
-    while high - low > 1:  # `low` gives so much, `high` doesn't
-        middle = (low + high) // 2
-        if predictor.run([middle])[0].frames >= frames:
-            low = middle
-        else:
-            high = middle
-    return low
+    @property
+    def mebibytes(self) -> float:
+        """What is given back."""
+        return self.frames * 4 / 1024

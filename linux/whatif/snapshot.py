@@ -5,14 +5,13 @@ from __future__ import annotations
 import re
 from collections import Counter
 from dataclasses import dataclass, field
-from typing import Any, Mapping
+from typing import Mapping
 
 from ..common.files import BASE, PMD_ORDER
 from ..common.folios import Folio
 from .rows import Moved, label
 
 NAME = "thpwhatif"
-VERSION = 2  # of what `Snapshot.to_json` makes
 
 
 @dataclass
@@ -57,26 +56,13 @@ class Snapshot:
         found = re.match(r"Linux ([0-9]{1,4})\.([0-9]{1,4})", self.kernel)
         return found is not None and (int(found[1]), int(found[2])) < (6, 18)
 
-    def to_json(self) -> dict[str, Any]:
-        """Returns it as a JSON object, from which `stored.snapshot_of` makes the same snapshot."""
-        out = dict(vars(self), version=VERSION, sums=vars(self.sums))
-        out["folios"] = [folio.to_json() for folio in self.folios]
-        out["changed_pages"] = [pair_json(pair) for pair in self.changed_pages]
-        return out
-
-
-def pair_json(pair: tuple[Folio | None, Folio | None]) -> list[Any]:
-    """Returns both readings of a page as JSON; null where it was no huge page."""
-    return [folio and folio.to_json() for folio in pair]
-
 
 def list_notes(snapshot: Snapshot, moved: Mapping[int, Moved] | None = None) -> list[str]:
     """Returns notes that a reader of the numbers needs, a line each. `moved`: as for `warnings`."""
-    whole = [folio for folio in snapshot.folios if folio.order == PMD_ORDER]
-    size = sum(BASE << folio.order for folio in snapshot.folios)
-    sums, lines = snapshot.sums, [snapshot.note] if snapshot.note else []
+    folios, sums, lines = snapshot.folios, snapshot.sums, [snapshot.note] if snapshot.note else []
+    whole, size = sum(folio.order == PMD_ORDER for folio in folios), sum(BASE << folio.order for folio in folios)
     lines.append(
-        f"{len(snapshot.folios)} huge pages ({len(whole)} of PMD size), {mebibytes(size)} MiB, "
+        f"{len(folios)} huge pages ({whole} of PMD size), {mebibytes(size)} MiB, "
         f"of {len(snapshot.processes)} processes; {mebibytes(snapshot.others * BASE)} MiB of other anonymous pages"
     )
     lines.append(
@@ -90,14 +76,10 @@ def list_notes(snapshot: Snapshot, moved: Mapping[int, Moved] | None = None) -> 
     if snapshot.lacking:
         lines.append(guess_of(snapshot))
     else:
-        counts = Counter({"queued": 0, "partly mapped": 0, "pinned": 0, "locked": 0})
-        for folio in snapshot.folios:
-            counts["queued"] += bool(folio.is_queued)
-            counts["partly mapped"] += bool(folio.is_partly)
-            counts["pinned"] += bool(folio.pins)
-            counts["locked"] += folio.is_locked
-        lines.append(", ".join(f"{what} {count}" for what, count in counts.items()))
-    unread = sum(1 for folio in snapshot.folios if mapped(folio) & ~folio.known)
+        queued, partly = sum(bool(folio.is_queued) for folio in folios), sum(bool(folio.is_partly) for folio in folios)
+        pinned, locked = sum(bool(folio.pins) for folio in folios), sum(folio.is_locked for folio in folios)
+        lines.append(f"queued {queued}, partly mapped {partly}, pinned {pinned}, locked {locked}")
+    unread = sum(any(mapping.subset & ~folio.known for mapping in folio.mappings) for folio in folios)
     lines += [f"with subpages that couldn't be read, taken as data: {unread}"] if unread else []
     return lines + warnings(snapshot, moved)
 
@@ -122,14 +104,6 @@ def counted(reasons: Mapping[str, int]) -> list[str]:
     """Returns how often there is each reason, the most frequent first; a process is one."""
     some = sorted(((why, count) for why, count in reasons.items() if count), key=lambda item: (-item[1], item[0]))
     return [why if why.startswith("process ") else f"{count} {why}" for why, count in some]
-
-
-def mapped(folio: Folio) -> int:
-    """Returns the subpages that the processes looked at map."""
-    out = 0
-    for mapping in folio.mappings:
-        out |= mapping.subset
-    return out
 
 
 def mebibytes(size: int) -> str:

@@ -4,49 +4,193 @@ field that is read is checked: such a file may come from anybody."""
 from __future__ import annotations
 
 import json
-import math
 import re
 from collections import Counter
-from typing import IO, Any, Callable, Iterator, NoReturn
+from dataclasses import fields
+from itertools import chain, groupby
+from typing import IO, Any, Callable, Iterable, Iterator, Mapping, NamedTuple, cast
 
 from ..common.errors import InputFault
-from ..common.files import open_input
-from ..common.folios import Folio, flag_of, folio_of, number_of
+from ..common.files import PMD_ORDER, open_input
+from ..common.folios import MOST_MAPPED, Folio, compact_counts
+from ..common.folios import Mapping as PageMapping
 from ..common.reader import FOLIO_COST, PIECE_COST
 from ..common.text import escape
-from .snapshot import VERSION, Snapshot, Sums, pair_json
+from .snapshot import Snapshot, Sums
 
-MOST = (1 << 63) - 1
+VERSION = 2  # of the form
 MOST_TEXT = 4096  # letters of a name
 DIGITS = 20  # of a number
 LINE = 1 << 20  # bytes of a line: a page that 5,000 processes map
-OBJECTS = ("processes", "names", "left_out", "unread")
-LISTS = ("changed_pages", "folios")
+SECTIONS = {"processes": "{}", "names": "{}", "left_out": "{}", "unread": "{}", "changed_pages": "[]", "folios": "[]"}
+"""The fields that have a line for each entry, and their brackets."""
+
+
+class Form(NamedTuple):
+    """How a value is stored: how it is read, with ValueError for what it can't be, and how it is written."""
+
+    read: Callable[[Any], Any]
+    write: Callable[[Any], Any] = lambda value: value
+
+
+def checked(test: Callable[[Any], object], what: str, make: Callable[[Any], Any] = lambda value: value) -> Form:
+    """Returns the form of values that pass a test, of which others are made."""
+
+    def read(value: Any) -> Any:
+        if not test(value):
+            raise ValueError(f"no {what}")
+        return make(value)
+
+    return Form(read)
+
+
+def whole(most: int, least: int = 0) -> Form:
+    """Returns the form of whole numbers within limits."""
+    return checked(lambda value: type(value) is int and least <= value <= most, f"whole number from {least} to {most}")
+
+
+def hexadecimal(digits: int) -> Form:
+    """Returns the form of numbers as hexadecimal texts."""
+    form = checked(lambda value: type(value) is str and re.fullmatch(f"[0-9a-f]{{1,{digits}}}", value),
+                   f"hexadecimal number of {digits} digits", lambda text: int(text, 16))
+    return form._replace(write=lambda value: format(value, "x"))
+
+
+def maybe(form: Form) -> Form:
+    """Returns the form of values that may be null."""
+    return Form(*(lambda value, do=do: None if value is None else do(value) for do in form))
+
+
+def list_of(form: Form) -> Form:
+    """Returns the form of lists with values of a form."""
+    return Form(lambda value: [form.read(each) for each in LIST.read(value)], lambda value: [form.write(each) for each in value])
+
+
+def row(make: Callable[..., Any], *forms: Form) -> Form:
+    """Returns the form of lists with a value of each form."""
+    values = checked(lambda value: type(value) is list and len(value) == len(forms), f"list of {len(forms)} values")
+    return Form(lambda value: make(*(form.read(each) for form, each in zip(forms, values.read(value)))),
+                lambda value: [form.write(each) for form, each in zip(forms, value)])
+
+
+def table_of(form: Form, make: Callable[[Any], Any] = dict) -> Form:
+    """Returns the form of objects of any names."""
+    return Form(lambda value: make({TEXT.read(name): form.read(each) for name, each in OBJECT.read(value).items()}))
+
+
+def forms_of(kind: type, **others: Form) -> dict[str, Form]:
+    """Returns the forms of a dataclass's fields: by their types, if they aren't given."""
+    return {each.name: others.get(each.name) or BY_TYPE[str(each.type)] for each in fields(kind)}
+
+
+def record(make: Callable[..., Any], forms: Mapping[str, Form], needed: Iterable[str]) -> Form:
+    """Returns the form of objects with these fields, some of them needed."""
+
+    def read(value: Any) -> Any:
+        return make(**with_all({name: read_field(name, each, forms) for name, each in OBJECT.read(value).items()}, needed))
+
+    return Form(read, lambda value: {name: form.write(getattr(value, name)) for name, form in forms.items()})
+
+
+def with_all(values: dict[str, Any], needed: Iterable[str]) -> dict[str, Any]:
+    """Returns the fields of an object. ValueError where one that is needed is missing."""
+    for name in needed:
+        if name not in values:
+            raise ValueError(f"{name} is missing")
+    return values
+
+
+def read_field(name: str, value: Any, forms: Mapping[str, Form]) -> Any:
+    """Returns a field of an object. ValueError where it is spoilt, or isn't one of these."""
+    if name not in forms:
+        raise ValueError(f"there is no field {name[:40]!r}")
+    try:
+        return forms[name].read(value)
+    except ValueError as error:
+        raise ValueError(f"{name}: {error}") from error
+
+
+def page_of(**values: Any) -> Folio:
+    """Returns a huge page of these values. ValueError where they don't fit its size."""
+    folio = Folio(**values)
+    if len(folio.totals) != folio.size:
+        raise ValueError(f"totals doesn't have {folio.size} numbers")
+    if max(folio.zero, folio.known, folio.kept, *(mapping.subset for mapping in folio.mappings)) > folio.full:
+        raise ValueError("a set has more subpages than the page")
+    return folio
+
+
+def snapshot_of(**values: Any) -> Snapshot:
+    """Returns a snapshot of these values. ValueError where it has a page twice."""
+    snapshot = Snapshot(**values)
+    if len({folio.frame for folio in snapshot.folios}) < len(snapshot.folios):
+        raise ValueError("two huge pages have the same frame")
+    return snapshot
+
+
+def runs_of(numbers: Iterable[int]) -> list[list[int]]:
+    """Returns runs of equal numbers: how often, and which."""
+    return [[len(list(run)), number] for number, run in groupby(numbers)]
+
+
+LIST, OBJECT = checked(lambda value: type(value) is list, "list"), checked(lambda value: type(value) is dict, "object")
+NUMBER = checked(lambda text: re.fullmatch("[0-9]{1,20}", text), "number as a name", int)
+COUNT, FLAG, SET = whole((1 << 64) - 1), checked(lambda value: type(value) is bool, "truth value"), hexadecimal(128)
+TEXT = checked(lambda value: type(value) is str and re.fullmatch(f"[ -~]{{0,{MOST_TEXT}}}", value), "text of one line in printable ASCII")
+SECONDS = checked(lambda value: type(value) in (int, float) and abs(value) < 1e9, "number of seconds", float)
+RUNS = list_of(row(lambda count, number: (number,) * count, whole(1 << PMD_ORDER, 1), whole(MOST_MAPPED)))
+SHORT = checked(lambda value: type(value) is list and len(value) <= 1 << PMD_ORDER, "list of at most as many runs as subpages", RUNS.read)
+BY_TYPE: dict[str, Form] = {
+    "int": COUNT, "int | None": maybe(COUNT), "bool": FLAG, "bool | None": maybe(FLAG), "str": TEXT, "float": SECONDS,
+    "dict[str, float]": table_of(SECONDS),
+    "Counter[str]": table_of(COUNT, Counter),
+    "dict[int, str]": table_of(TEXT, lambda value: {NUMBER.read(name): text for name, text in value.items()}),
+    "Sequence[int]": Form(lambda value: compact_counts(list(chain.from_iterable(SHORT.read(value)))), runs_of),
+    "list[Mapping]": list_of(row(PageMapping, whole(1 << 31, 1), hexadecimal(16), SET, FLAG)),
+}
+PAGE = record(page_of, forms_of(
+    Folio, frame=whole(1 << 52), order=whole(PMD_ORDER, 2), zero=SET, known=SET, kept=SET,
+    pins=maybe(whole(MOST_MAPPED, -MOST_MAPPED)),  # references dropped between two reads make it negative
+), ("frame", "order", "totals"))
+SUMS = forms_of(Sums)
+FIELDS = forms_of(
+    Snapshot, folios=list_of(PAGE), sums=record(Sums, SUMS, SUMS), today=maybe(whole((1 << PMD_ORDER) - 1)),
+    changed_pages=list_of(row(lambda *pair: pair, maybe(PAGE), maybe(PAGE))),
+)
+NEEDED = ("processes", "left_out", "sums", "folios")
+SNAPSHOT = record(snapshot_of, FIELDS, NEEDED)
+
+
+def to_json(snapshot: Snapshot) -> dict[str, Any]:
+    """Returns a snapshot as a JSON object."""
+    return {**SNAPSHOT.write(snapshot), "version": VERSION}
+
+
+def from_json(value: Any) -> Snapshot:
+    """Returns the snapshot of a JSON object. ValueError where it is spoilt."""
+    return cast(Snapshot, SNAPSHOT.read(without_version(value)))
+
+
+def without_version(value: Any) -> dict[str, Any]:
+    """Returns the fields of a stored snapshot. ValueError where they aren't those of this version."""
+    version = OBJECT.read(value).pop("version", None)
+    if type(version) is not int or version != VERSION:
+        raise ValueError(f"it has another version than {VERSION}")
+    return cast("dict[str, Any]", value)
 
 
 def json_parts(snapshot: Snapshot) -> Iterator[str]:
-    """Yields the JSON text of `Snapshot.to_json` in lines. The first one has all but objects and lists of any length."""
-    values = dict(vars(snapshot), version=VERSION, sums=vars(snapshot.sums))
-    yield json.dumps({name: value for name, value in values.items() if name not in OBJECTS + LISTS})[:-1] + "\n"
-    for name in OBJECTS:
-        yield f',"{name}": {{\n'
-        yield from separated(f"{json.dumps(str(key))}: {json.dumps(value)}" for key, value in values[name].items())
-        yield "}\n"
-    yield ',"changed_pages": [\n'
-    yield from separated(json.dumps(pair_json(pair)) for pair in snapshot.changed_pages)
-    yield ']\n,"folios": [\n'
-    yield from separated(json.dumps(folio.to_json()) for folio in snapshot.folios)
-    yield "]\n}\n"
-
-
-def separated(entries: Iterator[str]) -> Iterator[str]:
-    """Yields a line for each entry, with a comma unless it is the last one."""
-    former = next(entries, None)
-    for entry in entries:
-        yield f"{former},\n"
-        former = entry
-    if former is not None:
-        yield f"{former}\n"
+    """Yields the JSON text of a snapshot in lines. The first one has all but the sections."""
+    plain = {name: form.write(getattr(snapshot, name)) for name, form in FIELDS.items() if name not in SECTIONS}
+    yield json.dumps({**plain, "version": VERSION})[:-1] + "\n"
+    for name, brackets in SECTIONS.items():
+        yield f',"{name}": {brackets[0]}\n'
+        values = getattr(snapshot, name)
+        for left, each in zip(reversed(range(len(values))), values):
+            entry = FIELDS[name].write({each: values[each]} if brackets == "{}" else [each])
+            yield json.dumps(entry)[1:-1] + (",\n" if left else "\n")
+        yield f"{brackets[1]}\n"
+    yield "}\n"
 
 
 def whole_number(text: str) -> int:
@@ -56,12 +200,7 @@ def whole_number(text: str) -> int:
     return int(text)
 
 
-def no_constant(text: str) -> NoReturn:
-    """ValueError for NaN and Infinity."""
-    raise ValueError(f"{text} is no number")
-
-
-DECODER = json.JSONDecoder(parse_int=whole_number, parse_constant=no_constant)
+DECODER = json.JSONDecoder(parse_int=whole_number, parse_constant=int)
 
 
 def value_of(text: str) -> Any:
@@ -74,112 +213,6 @@ def value_of(text: str) -> Any:
         raise ValueError("it is nested too deeply") from error
 
 
-def text_of(value: Any, name: str) -> str:
-    """Returns a text of a stored snapshot: printable ASCII of one line. ValueError for anything else."""
-    if type(value) is not str or not re.fullmatch(r"[ -~]*", value) or len(value) > MOST_TEXT:
-        raise ValueError(f"{name} is no text of one line in printable ASCII")
-    return value
-
-
-def seconds_of(value: Any, name: str) -> float:
-    """Returns a number of seconds. ValueError for anything else."""
-    if type(value) not in (int, float) or not math.isfinite(value) or not -1e9 < value < 1e9:
-        raise ValueError(f"{name} is no number of seconds")
-    return float(value)
-
-
-def count_of(value: Any, name: str) -> int:
-    """Returns a count. ValueError for anything else."""
-    return number_of(value, name, MOST)
-
-
-def table_of(value: Any, name: str, read: Callable[[Any, str], Any]) -> dict[str, Any]:
-    """Returns an object whose values are read so. ValueError for anything else."""
-    if type(value) is not dict:
-        raise ValueError(f"{name} is no object")
-    return {text_of(key, f"a name of {name}"): read(each, f"a value of {name}") for key, each in value.items()}
-
-
-def names_of(value: Any, name: str) -> dict[int, str]:
-    """Returns texts by numbers. ValueError for anything else."""
-    out = table_of(value, name, text_of)
-    if not all(re.fullmatch(r"[0-9]{1,20}", key) for key in out):
-        raise ValueError(f"{name} has a name that is no number")
-    return {int(key): word for key, word in out.items()}
-
-
-def list_of(value: Any, name: str, read: Callable[[Any], Any]) -> list[Any]:
-    """Returns a list whose entries are read so. ValueError for anything else."""
-    if type(value) is not list:
-        raise ValueError(f"{name} is no list")
-    return [read(each) for each in value]
-
-
-def pair_of(value: Any) -> tuple[Folio | None, Folio | None]:
-    """Returns both readings of a page. ValueError for anything else."""
-    pair = list_of(value, "a changed page", maybe(lambda folio, _name="": folio_of(folio)))
-    if len(pair) != 2:
-        raise ValueError("a changed page has no two readings")
-    return pair[0], pair[1]
-
-
-def maybe(read: Callable[..., Any]) -> Callable[..., Any]:
-    """Returns a reader that takes null, too."""
-    return lambda value, *name: None if value is None else read(value, *name)
-
-
-def sums_of(value: Any, name: str) -> Sums:
-    """Returns the sums of a stored snapshot. ValueError for anything else."""
-    values = table_of(value, name, maybe(count_of))
-    if set(values) != set(vars(Sums())) or any(each is None for key, each in values.items() if key != "machine"):
-        raise ValueError(f"{name} doesn't have the sums of a snapshot")
-    return Sums(**values)
-
-
-READERS: dict[str, Callable[[Any, str], Any]] = {
-    "processes": names_of,
-    "names": names_of,
-    "left_out": lambda value, name: Counter(table_of(value, name, count_of)),
-    "unread": lambda value, name: Counter(table_of(value, name, count_of)),
-    "changed_pages": lambda value, name: list_of(value, name, pair_of),
-    "folios": lambda value, name: list_of(value, name, folio_of),
-    "sums": sums_of,
-    "today": maybe(lambda value, name: number_of(value, name, 511)),
-    "switch": maybe(flag_of),
-    "seconds": seconds_of,
-    "spent": lambda value, name: table_of(value, name, seconds_of),
-    **{name: text_of for name in ("chosen", "note", "lacking", "kernel", "at")},
-    **{name: count_of for name in ("looked_at", "others", "sampled", "changed")},
-}
-NEEDED = ("processes", "left_out", "sums", "folios")
-
-
-def read_value(name: str, value: Any) -> Any:
-    """Returns a field of a snapshot. ValueError where it is spoilt, or no snapshot has it."""
-    if name not in READERS:
-        raise ValueError(f"a snapshot has no {name[:40]!r}")
-    return READERS[name](value, name)
-
-
-def fields_of(values: Any) -> dict[str, Any]:
-    """Returns the fields of a JSON object, each checked. ValueError where one is spoilt."""
-    if type(values) is not dict:
-        raise ValueError("it is no object")
-    if values.get("version") != VERSION or type(values.get("version")) is not int:
-        raise ValueError(f"it has another version than {VERSION}")
-    return {name: read_value(name, value) for name, value in values.items() if name != "version"}
-
-
-def snapshot_of(fields: dict[str, Any]) -> Snapshot:
-    """Returns a snapshot of these fields. ValueError where they don't make one."""
-    missing = [name for name in NEEDED if name not in fields]
-    if missing:
-        raise ValueError(f"{missing[0]} is missing")
-    if len({folio.frame for folio in fields["folios"]}) < len(fields["folios"]):
-        raise ValueError("two huge pages have the same frame")
-    return Snapshot(**fields)
-
-
 class StoredReader:
     """Reads stored snapshots, within a limit of memory for all of them."""
 
@@ -190,7 +223,7 @@ class StoredReader:
         """Returns the snapshot of a file, or of standard input (`-`). InputFault where it isn't one, or takes too much memory."""
         file, self._line = open_input(path), 0
         try:
-            return snapshot_of(self._fields(file))
+            return snapshot_of(**with_all(self._fields(file), NEEDED))
         except (ValueError, OSError) as error:
             where = f"line {self._line}: " if self._line else ""
             raise InputFault(f"{escape(path)}: this is no stored snapshot: {where}{error}") from error
@@ -207,21 +240,23 @@ class StoredReader:
 
     def _fields(self, file: IO[bytes]) -> dict[str, Any]:
         """Returns the fields of a snapshot, each checked."""
-        fields = fields_of(value_of(self._next(file) + "}"))
+        values = without_version(value_of(self._next(file) + "}"))
+        fields = {name: read_field(name, value, FIELDS) for name, value in values.items()}
         while (line := self._next(file)) != "}":
             found = re.fullmatch(r',"([a-z_]{1,40})": (\[|{)', line)
-            if not found or found[1] not in (OBJECTS if found[2] == "{" else LISTS) or found[1] in fields:
+            if not found or SECTIONS.get(found[1], "")[:1] != found[2] or found[1] in fields:
                 raise ValueError("no section of a snapshot begins here")
-            fields[found[1]] = self._section(file, found[1], found[2] + {"{": "}", "[": "]"}[found[2]])
+            fields[found[1]] = self._section(file, found[1])
         if file.read(1):
             raise ValueError("there is more after its end")
         return fields
 
-    def _section(self, file: IO[bytes], name: str, brackets: str) -> Any:
+    def _section(self, file: IO[bytes], name: str) -> Any:
         """Returns an object or a list, an entry a line."""
-        out = read_value(name, value_of(brackets))
+        brackets = SECTIONS[name]
+        out = read_field(name, value_of(brackets), FIELDS)
         while (line := self._next(file)) != brackets[1]:
-            entry = read_value(name, value_of(brackets[0] + line.rstrip(",") + brackets[1]))
+            entry = read_field(name, value_of(brackets[0] + line.rstrip(",") + brackets[1]), FIELDS)
             self._take(entry)
             out.update(entry) if isinstance(out, dict) else out.extend(entry)
         return out

@@ -12,6 +12,7 @@ reclaim; where others move them, a trial whose pages are all as predicted is inc
 
 from __future__ import annotations
 
+import argparse
 import enum
 import json
 import os
@@ -23,7 +24,7 @@ import time
 from collections import Counter
 from contextlib import ExitStack, contextmanager, suppress
 from dataclasses import dataclass, field
-from typing import Dict, Iterator, List, Optional, Sequence, Set, Tuple
+from typing import Iterator, Sequence
 
 from ..common.counters import Counter as Statistic
 from ..common.counters import CounterWatch, counts
@@ -31,20 +32,21 @@ from ..common.errors import DIFFERS, DONE, INCONCLUSIVE, InputFault, RunFailed, 
 from ..common.files import COLLAPSE_SLEEP, PMD_ORDER, PTES_NONE, SWITCH, THP, OwnFolder, size_folder
 from ..common.folios import Folio
 from ..common.groups import END_TIME, Freeze, Groups
+from ..common.helpers import helper
 from ..common.keeper import Keeper
 from ..common.page_files import Frames, PageFlag, TooShort, frames_at
 from ..common.proc import members
 from ..common.subpages import size
 from ..common.text import escape
 from ..common.user import User
-from .known_pages import KnownPages
+from .known_pages import change_pages, make_pages
 from .page_plan import Reason
 from .predictor import Predictor
 from .rows import OFF, label
-from .processes import ProcessChoice
 from .reference import given_back
-from .look import LookOptions, SnapshotTaker
+from .look import LookOptions, ProcessChoice, SnapshotTaker
 from .snapshot import NAME, Snapshot
+from .stored import to_json
 
 THRESHOLDS = (OFF, 0, 1, 16, 32, 64, 128, 256, 409, 500, 510)
 SMALL_ORDERS = (4, 6)
@@ -53,7 +55,6 @@ TURN = 60.0  # seconds after which another tool may have the machine
 CHANGE_TIME = 0.5  # seconds that pages change before the look
 WINDOW = 0.05  # seconds before and after a reclaim in which nobody else may move the counters
 LONG_WINDOW = 1.0  # seconds for which the counters are watched where they don't fit
-COMPARED = (Statistic.SPLIT, Statistic.UNDERUSED)
 
 
 class Outcome(enum.Enum):
@@ -64,30 +65,14 @@ class Outcome(enum.Enum):
     DIFFERS = "DIFFERS"
 
 
-@dataclass(frozen=True)
-class TrialOptions:
-    """What is to be tried."""
-
-    thresholds: Sequence[int] = THRESHOLDS
-    rounds: int = 1
-    seed: int = 1
-    pages: int = 40
-    command: Sequence[str] = ()
-    user: Optional[User] = None  # who runs the command
-    after: float = 5.0  # seconds that the command runs before the look
-    running: bool = False  # it isn't held between the look and the reclaim
-    enabled: str = ""  # transparent_hugepage/enabled meanwhile
-    change: int = 0  # microseconds between changes of known pages; 0: they stand still
-    with_kernel: bool = True
-    wait: bool = False  # for another tool
-    verbose: bool = False
-    keep: str = ""  # a folder for what was seen
-
-    @property
-    def settings(self) -> List[str]:
-        """The files that are set, and put back."""
-        out = [SWITCH, PTES_NONE, COLLAPSE_SLEEP] + ([f"{THP}/enabled"] if self.enabled else [])
-        return out + ([] if self.command else [f"{size_folder(order)}/enabled" for order in SMALL_ORDERS])
+def settings(task: argparse.Namespace) -> dict[str, object]:
+    """Returns what is set for trials, by file, and put back. khugepaged collapses nothing meanwhile."""
+    out: dict[str, object] = {SWITCH: 1, PTES_NONE: OFF, COLLAPSE_SLEEP: HOUR}
+    if task.enabled:
+        out[f"{THP}/enabled"] = task.enabled
+    for order in () if task.words else SMALL_ORDERS:
+        out[f"{size_folder(order)}/enabled"] = "madvise"
+    return out
 
 
 @dataclass
@@ -96,85 +81,79 @@ class Result:
     by the plain reading (`plain`), and those that the kernel returned (`returned`)."""
 
     snapshot: Snapshot
-    folios: Dict[int, Folio]  # those that can be predicted
-    partly: Set[int]  # of these, the partly mapped ones
-    predicted: Dict[int, int]
-    plain: Dict[int, int]
-    returned: Dict[int, int]
-    unscripted: Dict[int, int]  # frames that came back of pages that can't be predicted
-    added: Dict[Statistic, int]  # to the kernel's counters
+    folios: dict[int, Folio]  # those that can be predicted
+    underused: int  # of these, those that are split as underused
+    predicted: dict[int, int]
+    plain: dict[int, int]
+    returned: dict[int, int]
+    unscripted: dict[int, int]  # frames that came back of pages that can't be predicted
+    added: dict[Statistic, int]  # to the kernel's counters
     is_undisturbed: bool = True  # nobody else moved the counters
     problem: str = ""  # why the pages weren't held still for the whole time, where they were to be
-    differing: List[int] = field(default_factory=list)
+    differing: list[int] = field(default_factory=list)
     moved: int = 0  # pages that differ, but were moved to other frames meanwhile (compaction)
 
-    def statistics(self) -> Dict[Statistic, int]:
+    def statistics(self) -> dict[Statistic, int]:
         """Returns the two predicted counters: pages of PMD size split, and those of them split as underused."""
         large = [frame for frame in self.predicted if self.folios[frame].order == PMD_ORDER]
-        under = [frame for frame in self.predicted if frame not in self.partly]
-        return {Statistic.SPLIT: len(large), Statistic.UNDERUSED: len(under)}
+        return {Statistic.SPLIT: len(large), Statistic.UNDERUSED: self.underused}
 
     @property
     def are_counters_right(self) -> bool:
         """Whether the counters moved as predicted, except for pages that can't be predicted."""
-        predicted = self.statistics()
-        return all(0 <= self.added[name] - predicted[name] <= len(self.unscripted) for name in predicted)
+        return all(0 <= self.added[name] - count <= len(self.unscripted) for name, count in self.statistics().items())
+
+    @property
+    def verdict(self) -> tuple[Outcome, str]:
+        """The outcome, and in words. Exact: each page and each frame as predicted, and the counters too."""
+        if self.problem:
+            return Outcome.INCONCLUSIVE, f"inconclusive: not held still the whole time: {escape(self.problem)}"
+        if self.differing:
+            return Outcome.DIFFERS, f"{len(self.differing)} pages DIFFER"
+        if any(self.added[name] < count for name, count in self.statistics().items()):  # others only add to the counters
+            return Outcome.DIFFERS, "the counters DIFFER"
+        if self.moved:
+            return Outcome.INCONCLUSIVE, f"inconclusive: {self.moved} pages were moved by others"
+        if not self.is_undisturbed:
+            return Outcome.INCONCLUSIVE, Outcome.INCONCLUSIVE.value
+        return (Outcome.EXACT, "exact") if self.are_counters_right else (Outcome.DIFFERS, "the counters DIFFER")
 
     @property
     def outcome(self) -> Outcome:
-        """Exact: each page and each frame as predicted, and the counters too."""
-        predicted = self.statistics()
-        if self.problem:
-            return Outcome.INCONCLUSIVE
-        if self.differing or any(self.added[name] < predicted[name] for name in predicted):  # others only add to the counters
-            return Outcome.DIFFERS
-        if self.moved or not self.is_undisturbed:
-            return Outcome.INCONCLUSIVE
-        return Outcome.EXACT if self.are_counters_right else Outcome.DIFFERS
+        """The outcome alone."""
+        return self.verdict[0]
 
 
 class Bench:
     """The machine, set for trials."""
 
-    def __init__(self, keeper: Keeper, task: TrialOptions) -> None:
-        self.keeper, self.task = keeper, task
+    def __init__(self, keeper: Keeper, task: argparse.Namespace, user: User) -> None:
+        self.keeper, self.task, self.user = keeper, task, user
         self.groups = Groups(keeper, "thpwhatif")
-        keeper.set(COLLAPSE_SLEEP, HOUR)
-        keeper.set(SWITCH, 1)
-        if task.enabled:
-            keeper.set(f"{THP}/enabled", task.enabled)
-        for order in () if task.command else SMALL_ORDERS:
-            keeper.set(f"{size_folder(order)}/enabled", "madvise")
+        for path, value in settings(task).items():
+            keeper.set(path, value)
         self._frames = Frames()
-        self._taker = SnapshotTaker(LookOptions(with_small=True, with_kernel=task.with_kernel))
+        self.taker = SnapshotTaker(LookOptions(with_small=True, with_kernel=task.with_kernel))
         self._made = 0
-
-    @property
-    def lacking(self) -> str:
-        """Why queues and pins are guessed; nothing where they are read."""
-        return self._taker.lacking
 
     def trial(self, threshold: int, chance: random.Random) -> Result:
         """Makes one trial on new pages."""
         self._made += 1
-        is_held = (self.task.command or self.task.change) and not self.task.running
-        group = self.groups.add(f"trial{self._made}", is_freezable=bool(is_held))
+        is_held = bool((self.task.words or self.task.change) and not self.task.running)
+        group = self.groups.add(f"trial{self._made}", is_freezable=is_held)
         self.keeper.set(PTES_NONE, threshold)
         with self._pages(group, threshold, chance), ExitStack() as stack:
             is_undisturbed = CounterWatch([]).watch_once(WINDOW)
             held = stack.enter_context(self.groups.freeze(group)) if is_held else Freeze()
-            snapshot = self._taker.take(ProcessChoice(groups=[group]))
+            snapshot = self.taker.take(ProcessChoice(groups=[group]))
             before = counts([])
             self.groups.reclaim(group)
-            added = counts([]).since(before).machine
+            added = {name: count or 0 for name, count in counts([]).since(before).machine.items()}
             returned, moved = find_returned(snapshot, self._frames)
             stack.close()
             is_undisturbed = is_undisturbed and CounterWatch([]).watch_once(WINDOW)
-            predictor = Predictor(snapshot)
         self.groups.remove(group)
-        result = self._result(snapshot, predictor, returned, {k: v or 0 for k, v in added.items()}, threshold)
-        result.moved = len(moved.intersection(result.differing))
-        result.differing = [frame for frame in result.differing if frame not in moved]
+        result = result_of(snapshot, threshold, returned, moved, added)
         result.is_undisturbed, result.problem = is_undisturbed, held.problem
         if is_undisturbed and not result.differing and not result.are_counters_right:
             result.is_undisturbed = CounterWatch([]).watch_once(LONG_WINDOW)
@@ -183,22 +162,17 @@ class Bench:
     @contextmanager
     def _pages(self, group: str, threshold: int, chance: random.Random) -> Iterator[None]:
         """Runs a process with pages until the end of the `with`."""
-        task, known = self.task, None
-        if task.command:
-            process = self._start(group, task.command, subprocess.DEVNULL, None, task.user)
-        else:
-            known = KnownPages(lambda command: self._start(group, command, subprocess.PIPE, subprocess.PIPE))
-            process = known.process
+        task = self.task
+        process = self._start(group, task.words) if task.words else self._start(group, [helper("known")], subprocess.PIPE)
         try:
-            if known and task.change:
-                known.send([f"alloc {PMD_ORDER}"] * task.pages)
-                known.change(task.change, chance.randrange(1 << 30))
-                time.sleep(CHANGE_TIME)
-            elif known:
-                orders = [PMD_ORDER] * 8 + list(SMALL_ORDERS)
-                known.make(chance, task.pages, orders, lambda: self._look_before(group, threshold))
-            else:
+            if task.words:
                 self._wait(process, group)
+            elif task.change:
+                change_pages(process, task.pages, task.change, chance.randrange(1 << 30))
+                time.sleep(CHANGE_TIME)
+            else:
+                orders = [PMD_ORDER] * 8 + list(SMALL_ORDERS)
+                make_pages(process, chance, task.pages, orders, lambda: self._look_before(group, threshold))
             yield
         finally:
             self._end(process, group)
@@ -229,20 +203,20 @@ class Bench:
             raise RunFailed(f"the command ended {ended} before the look (--after {self.task.after:g})")
         print(f"the command ended {ended} before the look; processes that it started run on", flush=True)
 
-    def _start(
-        self, group: str, command: Sequence[str], stdin: int, stdout: Optional[int], user: Optional[User] = None
-    ) -> subprocess.Popen[str]:
+    def _start(self, group: str, command: Sequence[str], ends: int | None = None) -> subprocess.Popen[str]:
+        """Starts a process in a group: the helper, with pipes as its ends, or a user's command without any."""
+
         def enter() -> None:
             self.groups.enter(group, os.getpid())
-            if user:
-                user.enter()
+            if ends is None:
+                self.user.enter()
             signal.pthread_sigmask(signal.SIG_SETMASK, former)
 
-        environment = user.environment() if user else None
+        stdin, environment = (subprocess.DEVNULL, self.user.environment()) if ends is None else (ends, None)
         try:
             with signals_wait() as former:
                 process = subprocess.Popen(
-                    list(command), stdin=stdin, stdout=stdout, text=True, start_new_session=True, env=environment, preexec_fn=enter
+                    command, stdin=stdin, stdout=ends, text=True, start_new_session=True, env=environment, preexec_fn=enter
                 )
         except (OSError, ValueError) as error:
             reason = getattr(error, "strerror", None) or error
@@ -258,36 +232,38 @@ class Bench:
         self.groups.reclaim(group)
         self.keeper.set(PTES_NONE, threshold)
 
-    def _result(
-        self,
-        snapshot: Snapshot,
-        predictor: Predictor,
-        returned: Dict[int, int],
-        added: Dict[Statistic, int],
-        threshold: int,
-    ) -> Result:
-        folios, predicted = {folio.frame: folio for folio in predictor.folios}, predictor.frames_given(threshold)
-        unscripted = {frame: given for frame, given in returned.items() if frame not in folios}
-        plain = {}
-        for frame, folio in folios.items():
-            back = given_back(folio, threshold, snapshot.locked_are_tried)
-            if back is not None:
-                plain[frame] = sum(1 << i for i, is_back in enumerate(back) if is_back)
-        own = {frame: given for frame, given in returned.items() if frame in folios}
-        differing = [frame for frame in folios if predicted.get(frame) != own.get(frame)]
-        return Result(snapshot, folios, predictor.partly, predicted, plain, own, unscripted, added, differing=differing)
+
+def result_of(
+    snapshot: Snapshot, threshold: int, returned: dict[int, int], moved: set[int], added: dict[Statistic, int]
+) -> Result:
+    """Returns what a trial found, given the frames that came back by page, the pages that were moved, and what was added to the
+    kernel's counters."""
+    predictor, plain = Predictor(snapshot), {}
+    folios, predicted = {folio.frame: folio for folio in predictor.folios}, predictor.frames_given(threshold)
+    for frame, folio in folios.items():
+        back = given_back(folio, threshold, snapshot.locked_are_tried)
+        if back is not None:
+            plain[frame] = sum(1 << i for i, is_back in enumerate(back) if is_back)
+    own = {frame: given for frame, given in returned.items() if frame in folios}
+    unscripted = {frame: given for frame, given in returned.items() if frame not in folios}
+    differing = [frame for frame in folios if predicted.get(frame) != own.get(frame)]
+    underused = predictor.run([threshold])[0].underused
+    result = Result(snapshot, folios, underused, predicted, plain, own, unscripted, added)
+    result.moved = len(moved.intersection(differing))
+    result.differing = [frame for frame in differing if frame not in moved]
+    return result
 
 
-def find_returned(snapshot: Snapshot, frames: Frames) -> Tuple[Dict[int, int], Set[int]]:
+def find_returned(snapshot: Snapshot, frames: Frames) -> tuple[dict[int, int], set[int]]:
     """Returns which frames came back, by page: of those that are no longer whole, each subpage that no process of the
     snapshot maps where it was. Frames that are a huge page, but nobody's where they were, came back altogether and are
     in use again. Also the pages that were moved: a subpage with data is mapped where it was, from another frame."""
-    out: Dict[int, int] = {}
-    moved: Set[int] = set()
+    out: dict[int, int] = {}
+    moved: set[int] = set()
     for folio in snapshot.folios:
         flags = frames.flags(folio.frame, folio.size)
         is_whole = flags[0] & PageFlag.COMPOUND_HEAD and all(flag & PageFlag.COMPOUND_TAIL for flag in flags[1:])
-        is_held: Set[int] = set()
+        is_held: set[int] = set()
         for mapping in folio.mappings:
             try:
                 now = frames_at(mapping.process, mapping.address, folio.size)
@@ -304,9 +280,13 @@ def find_returned(snapshot: Snapshot, frames: Frames) -> Tuple[Dict[int, int], S
     return out, moved
 
 
+def count_subpages(sets: dict[int, int]) -> int:
+    """Returns how many subpages there are in sets."""
+    return sum(map(size, sets.values()))
+
+
 def count_result(sums: Counter[str], result: Result) -> None:
     """Adds a trial to the sums that are printed at the end."""
-    returned = sum(size(given) for given in result.returned.values())
     outcome = result.outcome
     sums["trials"] += 1
     sums["trials exact"] += outcome is Outcome.EXACT
@@ -316,41 +296,26 @@ def count_result(sums: Counter[str], result: Result) -> None:
     sums["pages"] += len(result.folios)
     sums["pages as predicted, to the frame"] += len(result.folios) - len(result.differing)
     sums["pages split"] += len(result.returned)
-    sums["frames predicted"] += sum(size(given) for given in result.predicted.values())
-    sums["frames that came back"] += returned
+    sums["frames predicted"] += count_subpages(result.predicted)
+    sums["frames that came back"] += count_subpages(result.returned)
     sums["pages that were left out"] += sum(result.snapshot.left_out.values())
     sums["  of these given to MADV_FREE"] += result.snapshot.left_out[Reason.LAZILY_FREED.value]
     sums["  of these split or dropped"] += len(result.unscripted)
-    sums["  and their frames"] += sum(size(given) for given in result.unscripted.values())
+    sums["  and their frames"] += count_subpages(result.unscripted)
     sums["pages found changed between two looks"] += result.snapshot.changed
-
-
-def verdict_of(result: Result) -> str:
-    """Returns the outcome in words."""
-    if result.problem:
-        return f"inconclusive: not held still the whole time: {escape(result.problem)}"
-    if result.differing:
-        return f"{len(result.differing)} pages DIFFER"
-    if result.moved:
-        return f"inconclusive: {result.moved} pages were moved by others"
-    return "the counters DIFFER" if result.outcome is Outcome.DIFFERS else str(result.outcome.value)
 
 
 def trial_line(threshold: int, result: Result) -> str:
     """Returns one line of a trial."""
-    predicted = sum(size(given) for given in result.predicted.values())
-    returned = sum(size(given) for given in result.returned.values())
-    verdict = verdict_of(result)
-    names = result.statistics()
-    counted = ", ".join(f"{name.value} {result.added[name]} of {names[name]}" for name in names)
+    counted = ", ".join(f"{name.value} {result.added[name]} of {count}" for name, count in result.statistics().items())
     return (
         f"{label(threshold):>4}: {len(result.folios)} pages; split {len(result.returned)} of {len(result.predicted)} predicted; "
-        f"frames {returned} of {predicted} predicted; {counted}, "
-        f"{Statistic.SPLIT_FAILED.value} {result.added[Statistic.SPLIT_FAILED]}: {verdict}"
+        f"frames {count_subpages(result.returned)} of {count_subpages(result.predicted)} predicted; {counted}, "
+        f"{Statistic.SPLIT_FAILED.value} {result.added[Statistic.SPLIT_FAILED]}: {result.verdict[1]}"
     )
 
 
-def difference_lines(result: Result) -> List[str]:
+def difference_lines(result: Result) -> list[str]:
     """Returns the first pages that differ, a line each."""
     lines = []
     for frame in result.differing[:6]:
@@ -365,22 +330,21 @@ def difference_lines(result: Result) -> List[str]:
     return lines
 
 
-def verify(task: TrialOptions) -> int:
-    """Runs all trials; returns the status: DIFFERS where one differs, else INCONCLUSIVE where one is inconclusive.
-    After TURN seconds another tool may have the lock for a while."""
+def verify(task: argparse.Namespace, user: User) -> int:
+    """Runs all trials that options.py describes; returns the status: DIFFERS where one differs, else INCONCLUSIVE where one is
+    inconclusive. `user` runs the command. After TURN seconds another tool may have the lock for a while."""
     sums: Counter[str] = Counter()
-    todo = [(number, threshold) for number in range(task.rounds) for threshold in task.thresholds][::-1]
-    if task.command and not shutil.which(task.command[0]):
-        raise InputFault(f"{escape(task.command[0])} can't be run: there is no such program")
-    folder = OwnFolder(task.keep) if task.keep else None
-    waits = task.wait
+    todo = [(number, threshold) for number in range(task.rounds) for threshold in task.thresholds or THRESHOLDS][::-1]
+    if task.words and not shutil.which(task.words[0]):
+        raise InputFault(f"{escape(task.words[0])} can't be run: there is no such program")
+    folder, waits = OwnFolder(task.keep) if task.keep else None, task.wait
     while todo:
         with Keeper(NAME, waits) as keeper:
-            bench, until = Bench(keeper, task), time.monotonic() + TURN
+            bench, until = Bench(keeper, task, user), time.monotonic() + TURN
             if not sums:
-                print("set meanwhile, and put back: " + ", ".join(task.settings), flush=True)
-                if bench.lacking:
-                    print(f"queues and pins aren't read ({bench.lacking}): predictions are guesses", flush=True)
+                print("set meanwhile, and put back: " + ", ".join(settings(task)), flush=True)
+                if bench.taker.lacking:
+                    print(f"queues and pins aren't read ({bench.taker.lacking}): predictions are guesses", flush=True)
             while todo and time.monotonic() < until:
                 number, threshold = todo.pop()
                 result = bench.trial(threshold, random.Random(f"{task.seed} {number} {threshold}"))
@@ -388,7 +352,7 @@ def verify(task: TrialOptions) -> int:
                 if folder:
                     keep(folder, f"{task.seed}-{number}-{label(threshold)}", threshold, result)
                 if task.verbose or result.outcome is not Outcome.EXACT:
-                    print("\n".join([trial_line(threshold, result)] + difference_lines(result)), flush=True)
+                    print("\n".join([trial_line(threshold, result), *difference_lines(result)]), flush=True)
         waits = True
     for what, count in sums.items():
         print(f"{count:10} {what}")
@@ -404,7 +368,7 @@ def keep(folder: OwnFolder, name: str, threshold: int, result: Result) -> None:
     """Writes what was seen before and after a trial, so that it can be checked again: `seen`, a stored snapshot, and
     `returned`, the frames that came back by the page's first frame, as hexadecimal sets."""
     returned = {str(frame): format(given, "x") for frame, given in {**result.returned, **result.unscripted}.items()}
-    text = json.dumps({"threshold": threshold, "came": returned, "seen": result.snapshot.to_json()})
+    text = json.dumps({"threshold": threshold, "came": returned, "seen": to_json(result.snapshot)})
     try:
         with folder.create(f"{name}.json") as file:
             file.write(text + "\n")

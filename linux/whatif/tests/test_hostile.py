@@ -14,7 +14,7 @@ import sys
 import tempfile
 import unittest
 from pathlib import Path
-from typing import Any, Dict, Iterator, List, Sequence, Tuple
+from typing import Any, Iterator, Sequence
 from unittest import mock
 
 from ...common import proc
@@ -25,9 +25,9 @@ from ...common.reader import Spans
 from ...common.spaces import live_thread
 from ...common.workers import load_library
 from .. import program
-from ..outputs import open_output
 from ..page_plan import NotPredictable, plan_page
-from ..stored import StoredReader, fields_of, json_parts, snapshot_of, value_of
+from ..program import open_output
+from ..stored import StoredReader, from_json, json_parts, value_of
 
 STORED = Path(__file__).resolve().parent / "stored"
 COMPILER = shutil.which(os.environ.get("CC", "cc")) or shutil.which("gcc")
@@ -106,7 +106,7 @@ class Proc(unittest.TestCase):
 class Locked(unittest.TestCase):
     """Locked areas by smaps."""
 
-    def found(self, data: bytes, most: int = 64) -> Tuple[int, List[int]]:
+    def found(self, data: bytes, most: int = 64) -> tuple[int, list[int]]:
         """How many areas are found, and the numbers that are filled in."""
         room = (ctypes.c_uint64 * (2 * most))()
         with tempfile.TemporaryFile() as file:
@@ -158,9 +158,9 @@ class Spanned(unittest.TestCase):
         self.assertIsInstance(compact_counts(array("Q", [0, 1])), bytes)
 
 
-def good() -> Dict[str, Any]:
+def good() -> dict[str, Any]:
     """A stored snapshot with one page."""
-    stored: Dict[str, Any] = json.loads((STORED / "known.json").read_text(encoding="ascii"))
+    stored: dict[str, Any] = json.loads((STORED / "known.json").read_text(encoding="ascii"))
     stored["folios"] = stored["folios"][:1]
     return stored
 
@@ -170,11 +170,11 @@ class Stored(unittest.TestCase):
 
     def refused(self, text: str) -> None:
         with self.assertRaises(ValueError) as raised:
-            snapshot_of(fields_of(value_of(text)))
+            from_json(value_of(text))
         self.assertNotIn("\n", str(raised.exception))
 
     def test_fields_of_a_page(self) -> None:
-        snapshot_of(fields_of(good()))
+        from_json(good())
         for field, values in {
             "order": (70, 1, -1, 9.0, "9", None, True, 10**30),
             "frame": (-1, "x", None, 1 << 60, 1.5),
@@ -225,7 +225,7 @@ class Stored(unittest.TestCase):
 
     def test_any_change(self) -> None:
         chance = random.Random(8)
-        text = "".join(json_parts(snapshot_of(fields_of(good()))))
+        text = "".join(json_parts(from_json(good())))
         with tempfile.TemporaryDirectory() as folder:
             for _ in range(300):
                 changed = list(text)
@@ -265,7 +265,7 @@ class CommandLine(unittest.TestCase):
         self.addCleanup(os.chdir, os.getcwd())
         os.chdir(folder.name)
 
-    def run_words(self, words: Sequence[str]) -> Tuple[object, str]:
+    def run_words(self, words: Sequence[str]) -> tuple[object, str]:
         """The status of these words, and what they wrote on standard error."""
         out, problems, status = io.StringIO(), io.StringIO(), None
         given = ["thpwhatif"] + [self.paths.get(word, word) for word in words]
@@ -279,7 +279,7 @@ class CommandLine(unittest.TestCase):
 
     def test_2000_lines_of_words(self) -> None:
         chance = random.Random(10)
-        seen: Dict[object, int] = {}
+        seen: dict[object, int] = {}
         for _ in range(2000):
             words = [chance.choice(WORDS[:6])] if chance.random() < 0.8 else []
             words += [chance.choice(WORDS) for _ in range(chance.randrange(6))]
@@ -340,7 +340,7 @@ def signals_kept() -> Iterator[None]:
     import signal
 
     numbers = (signal.SIGTERM, signal.SIGHUP)
-    former: List[Any] = [signal.getsignal(number) for number in numbers]
+    former: list[Any] = [signal.getsignal(number) for number in numbers]
     try:
         yield
     finally:

@@ -11,15 +11,15 @@ import tempfile
 import unittest
 from collections import Counter
 from pathlib import Path
-from typing import List, Sequence
+from typing import Sequence
 from unittest import mock
 
 from ...common.errors import InputFault
 from ..metrics import MARK, MetricsFile, metrics_text
-from ..report import look_of
+from ..report import Report
 from ..rows import OFF, Moved, Row
 from ..snapshot import Snapshot
-from ..watch import Look, watch
+from ..watch import watch
 
 ROWS = [Row(OFF, 10, 2, 0, 1, 512), Row(0, 10, 8, 6, 1, 2816)]
 HOSTILE = 'process 5 (a"}\\x0a# HELP x{): it ended'
@@ -27,11 +27,11 @@ LINE = re.compile(r'thpwhatif_[a-z_]+(\{threshold="(off|[0-9]+)"\})? [0-9]+(\.[0
 """A value in the text format of Prometheus, with the one label that there is."""
 
 
-def look_at(rows: Sequence[Row]) -> Look:
+def look_at(rows: Sequence[Row]) -> Report:
     """A look as `watch` makes it of a snapshot with these rows."""
     left_out = Counter({HOSTILE: 1, "huge pages that moved": 4})
     snapshot = Snapshot([], {}, left_out, Counter({"groups": 2}), today=0, sampled=4, changed=3, seconds=1.5)
-    return look_of(snapshot, list(rows), 0.25, {OFF: Moved(0, 0), 0: Moved(2, 30)})
+    return Report([snapshot], list(rows), {OFF: Moved(0, 0), 0: Moved(2, 30)}, 0.25)
 
 
 class JsonLines(unittest.TestCase):
@@ -60,12 +60,6 @@ class JsonLines(unittest.TestCase):
             watch(lambda: look_at(ROWS), 0.001, 1, out, as_json=True)
         self.assertEqual(out.getvalue().count("\n"), 1)
         self.assertNotIn("\x1b", out.getvalue())
-
-    def test_each_look_is_passed_on(self) -> None:
-        found: List[Look] = []
-        for as_json in (False, True):
-            watch(lambda: look_at(ROWS), 0.001, 2, io.StringIO(), as_json=as_json, also=found.append)
-        self.assertEqual(len(found), 4)
 
 
 class Text(unittest.TestCase):
@@ -108,7 +102,7 @@ class Text(unittest.TestCase):
         self.assertNotIn("process 5", metrics_text(look_at(ROWS)))
 
     def test_what_is_unknown_is_absent(self) -> None:
-        text = metrics_text(Look([], None, [], is_read=False))
+        text = metrics_text(Report([Snapshot([], {}, Counter(), lacking="not asked for")]))
         self.assertNotIn("max_ptes_none", text)
         self.assertNotIn("threshold", text)
         self.assertIn("\nthpwhatif_queues_read 0\n", text)

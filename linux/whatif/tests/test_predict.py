@@ -18,9 +18,9 @@ from ...common.subpages import bits_of, size
 from ..page_plan import NotPredictable, plan_page
 from ..predictor import Library, Predictor, load_library
 from ..reference import given_back
-from ..rows import OFF, find_highest
+from ..rows import OFF
 from ..snapshot import Snapshot
-from ..stored import fields_of, snapshot_of
+from ..stored import from_json
 from .own_library import compile_library, lacking
 from .sample_folios import any_folio, folio, holed_folio
 
@@ -64,8 +64,10 @@ def differences(
         for threshold, row in zip(thresholds, one.run(thresholds)):
             wanted = plain(one.folios, threshold, snapshot.locked_are_tried)
             sizes = {frame: size(given) for frame, given in wanted.items()}
-            fates = {frame: fate.frames for frame, fate in one.fates(threshold).items() if fate.frames is not None}
-            sums = (len(wanted), len(one.partly & set(wanted)), sum(sizes.values()))
+            fates = {page.frame: one.frames_back(threshold, plan) for page, plan in zip(one.folios, one.plans)}
+            fates = {frame: frames for frame, frames in fates.items() if frames is not None}
+            partly = {page.frame for page in one.folios if plan_page(page, snapshot.locked_are_tried).is_partly}
+            sums = (len(wanted), len(partly & set(wanted)), sum(sizes.values()))
             if (fates, (row.split, row.partly, row.frames)) != (sizes, sums) or one.frames_given(threshold) != wanted:
                 out.append(f"{kernel} {threshold}")
     return out
@@ -138,7 +140,7 @@ class MadeUp(unittest.TestCase):
         given = {t: 12 + sum(zero for zero in zeros if zero > t and t != OFF) for t in range(OFF + 1)}
         for frames in (1, 12, 13, 1000, 20000, 51000, 10**6):
             wanted = [threshold for threshold, sums in given.items() if sums >= frames]
-            self.assertEqual(find_highest(one, frames), max(wanted) if wanted else None)
+            self.assertEqual(one.find_highest(frames), max(wanted) if wanted else None)
 
     def test_84000_pages_beside_a_plain_count(self) -> None:
         chance = random.Random(84)
@@ -179,7 +181,7 @@ class MadeUp(unittest.TestCase):
         whole = folio(0, zero=bits_of(0, 64))
         pairs = [(whole, folio(0)), (whole, None), (None, folio(1)), (folio(2, is_lazily_freed=True), whole), (whole, whole)]
         one = Predictor(look([]))
-        moved = one.moved_rows([first for first, _ in pairs], [second for _, second in pairs], [OFF, 63, 64])
+        moved = one.moved_rows(pairs, [OFF, 63, 64])
         self.assertEqual({threshold: tuple(each) for threshold, each in moved.items()}, {OFF: (0, 0), 63: (3, 192), 64: (0, 0)})
         self.assertEqual(one.run([63])[0].pages, 0)
 
@@ -251,9 +253,9 @@ class Mutants(unittest.TestCase):
             return int(found[1])
 
         library, record = load_library(), plan_page(folio(zero=7)).pack()
-        library.predict(record * 1000, 3)
+        library.predict([record] * 1000, [0] * 1000, 3)
         before = resident()
-        library.predict(record * 20000, 3)
+        library.predict([record] * 20000, [0] * 20000, 3)
         self.assertLess(resident() - before, 20000)
 
 
@@ -266,7 +268,7 @@ class Trials(unittest.TestCase):
         for path in files:
             stored = json.loads(path.read_text(encoding="ascii"))
             came = {int(frame): int(given, 16) for frame, given in stored["came"].items()}
-            snapshot, threshold = snapshot_of(fields_of(stored["seen"])), stored["threshold"]
+            snapshot, threshold = from_json(stored["seen"]), stored["threshold"]
             predicted = [one for one in snapshot.folios if is_predictable(one)]
             own = {one.frame: came[one.frame] for one in predicted if one.frame in came}
             self.assertEqual(plain(predicted, threshold), own, path.name)

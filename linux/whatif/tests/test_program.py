@@ -18,8 +18,8 @@ from unittest import mock
 from ...common import helpers
 from ...common.errors import Unavailable
 from .. import program
-from ..libthp import helper_with_libthp
 from ..options import parser
+from ..predictor import helper_with_libthp
 from .own_library import ROOT, lacking
 
 HERE = Path(__file__).resolve().parent

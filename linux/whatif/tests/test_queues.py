@@ -3,7 +3,6 @@
 from __future__ import annotations
 
 import unittest
-from typing import List
 
 from ...common.folios import Folio
 from ..queues import keep_lasting_pins
@@ -13,9 +12,9 @@ from .sample_folios import folio
 class Pins(unittest.TestCase):
     def test_pins_of_a_moment_do_not_count(self) -> None:
         folios = [folio(number, pins=pins) for number, pins in enumerate((0, 1, 1, 3, None))]
-        seen: List[int] = []
+        seen: list[int] = []
 
-        def look(again: List[Folio]) -> None:
+        def look(again: list[Folio]) -> None:
             for one, pins in zip(again, (0, 1, 5)):
                 seen.append(one.frame)
                 one.pins, one.is_queued = pins, False

@@ -20,10 +20,10 @@ from ...common.folios import compact_counts, even_counts
 from ...common.reader import FOLIO_COST
 from ..picture import picture
 from ..predictor import Predictor
+from ..report import cost_table, group_table, last_line, process_table, row_json, table
 from ..rows import DEFAULT, with_today
 from ..snapshot import Snapshot, list_notes
-from ..stored import LINE, StoredReader, fields_of, json_parts, snapshot_of
-from ..table import cost_table, group_table, last_line, process_table, row_json, table
+from ..stored import LINE, StoredReader, from_json, json_parts, to_json
 from .own_library import ROOT, lacking
 from .sample_folios import folio, holed_folio
 
@@ -41,7 +41,7 @@ def tables(snapshot: Snapshot) -> dict[str, str]:
     """All texts that need libthp, by the ends of their files' names."""
     predictor, today = Predictor(snapshot), snapshot.today
     thresholds = with_today(DEFAULT, today)
-    rows, shares = predictor.run(thresholds), predictor.shares(thresholds)
+    rows, shares = predictor.run(thresholds), {each: predictor.by_process(each) for each in thresholds}
     parts = [*list_notes(snapshot), table(rows, today), process_table(shares, snapshot.processes)]
     parts += [group_table(predictor.by_group(thresholds)), cost_table(shares[0], snapshot.processes)]
     parts.append(last_line(snapshot.left_out))
@@ -89,8 +89,8 @@ class Files(unittest.TestCase):
         for snapshot in [made(), Snapshot([], {}, Counter()), *map(load, NAMES)]:
             text = "".join(json_parts(snapshot))
             self.assertEqual(StoredReader(64).read(self.write(text)), snapshot)
-            self.assertEqual(json.loads(text), json.loads(json.dumps(snapshot.to_json())))
-            self.assertEqual(snapshot_of(fields_of(json.loads(text))), snapshot)
+            self.assertEqual(json.loads(text), json.loads(json.dumps(to_json(snapshot))))
+            self.assertEqual(from_json(json.loads(text)), snapshot)
             with mock.patch("sys.stdin", io.TextIOWrapper(io.BytesIO(text.encode("ascii")))):
                 self.assertEqual(StoredReader(64).read("-"), snapshot)
 
@@ -111,7 +111,7 @@ class Files(unittest.TestCase):
             ('"100": "a",', "", "line 3: a line has another number of entries than one"),
             ('"100": "a"', '"100": 7', "line 3: .*no text of one line"),
             ('"101": "b c"\n', '"101": "b c"]\n', "line 4: no JSON"),
-            ("[null, {", "[{", "a changed page has no two readings"),
+            ("[null, {", "[{", "changed_pages: no list of 2 values"),
         ):
             self.refused(good.replace(old, new, 1), why)
         self.refused(good + "\n", "there is more after its end")
@@ -148,8 +148,8 @@ class Files(unittest.TestCase):
         page = json.dumps({"order": 2, "frame": 0, "totals": [[4, 1]]})
         files = {
             '{"version":2,"folios":[' + "[]," * (size // 3): "line 1: it has more than 1 MiB",
-            head + "[],\n" * (size // 4): "a huge page is no object",
-            head + ("[]," * 300000 + "\n") * 60: "a huge page is no object|number of entries",
+            head + "[],\n" * (size // 4): "folios: no object",
+            head + ("[]," * 300000 + "\n") * 60: "folios: no object|number of entries",
             head + "".join(page.replace("0", str(4 * n), 1) + ",\n" for n in range(200000)): "it takes more than 64 MiB",
             '{"version": 2\n,"processes": {\n' + '"5": "x",\n' * (size // 10): "it takes more than 64 MiB",
         }

@@ -4,14 +4,15 @@ from __future__ import annotations
 
 import io
 import unittest
-from typing import List
+from collections import Counter
 from xml.etree import ElementTree
 
+from ..look import ProcessChoice
 from ..picture import picture, round_up
-from ..processes import ProcessChoice
+from ..report import Report, cost_table, last_line, row_json, table
 from ..rows import OFF, Row, Share
-from ..table import cost_table, last_line, row_json, table
-from ..watch import Look, Watch, line_of, watch
+from ..snapshot import Snapshot
+from ..watch import Watch, line_of, watch
 
 ROWS = [Row(OFF, 10, 2, 0, 1, 512), Row(0, 10, 8, 6, 1, 2816)]
 
@@ -61,11 +62,11 @@ class Watching(unittest.TestCase):
     def test_rounds_and_lines(self) -> None:
         out, looks = io.StringIO(), iter([512, 256])
 
-        def look() -> Look:
-            return Look([Row(0, 4, 1, 1, 0, next(looks))], None, ["a note"])
+        def look() -> Report:
+            return Report([Snapshot([], {}, Counter(), note="a note")], [Row(0, 4, 1, 1, 0, next(looks))])
 
         watch(look, 0.01, 2, out)
-        lines: List[str] = out.getvalue().split("\n")
+        lines = out.getvalue().split("\n")
         wanted = [f"4 pages; MiB back: 0 {mebibytes}; a note" for mebibytes in ("2.0", "1.0")]
         self.assertEqual([line[9:] for line in lines[:2]], wanted)
         self.assertEqual(lines[2], "look 2")

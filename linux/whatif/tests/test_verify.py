@@ -4,7 +4,7 @@ from __future__ import annotations
 
 import unittest
 from collections import Counter
-from typing import Any, Dict
+from typing import Any
 
 from ...common.counters import Counter as Statistic
 from ..snapshot import Snapshot
@@ -18,8 +18,8 @@ def result(**facts: Any) -> Result:
     """A trial of one page that is split as underused, as predicted."""
     page = folio(0, zero=15)
     given = {page.frame: 15}
-    values: Dict[str, Any] = dict(predicted=given, plain=given, returned=given, unscripted={}, added=dict(NUMBERS), **facts)
-    return Result(Snapshot([page], {}, Counter()), {page.frame: page}, set(), **values)
+    values: dict[str, Any] = dict(predicted=given, plain=given, returned=given, unscripted={}, added=dict(NUMBERS), **facts)
+    return Result(Snapshot([page], {}, Counter()), {page.frame: page}, 1, **values)
 
 
 class Outcomes(unittest.TestCase):
