@@ -33,12 +33,12 @@ MOST_SPANS = 1 << 18  # locked areas of a process
 MAP_NORESERVE = 0x4000
 LEAST_ROOM = 1 << 24  # bytes for pieces and what else is read
 KNOWN = 8 << 18  # bytes that pages.c has for blocks of frames
-WALK, COMPARE = range(2)  # what a request asks for
+WALK, FIND_TABLES = range(2)  # what a request asks for
 
 PIECE = struct.Struct("<QQQIIII64s")  # struct piece of pages.c
 CONTENT = struct.Struct("<QQ64s64s")  # struct content
 REQUEST, REPLY = struct.Struct("<iiiiqq"), struct.Struct("<6q")
-UNITS = {WALK: PIECE.size, COMPARE: 4}  # bytes of what an answer has `found` of
+UNITS = PIECE.size, 8  # bytes of what a request has, and an answer has `found` of
 
 
 @lru_cache(maxsize=None)
@@ -67,9 +67,7 @@ class Request(NamedTuple):
     process: int
     what: int
     seconds: float = SECONDS
-    entries: int = 0  # of `data`
-    data: bytes = b""
-    tag: int = 0  # the caller's own
+    data: bytes = b""  # pieces to look at again, or numbers of threads
     thread: int = 0  # by which its memory is read: one that lives
 
 
@@ -107,9 +105,10 @@ class Worker:
 
     def begin(self, request: Request, with_small: bool, most: int) -> None:
         """Begins a request."""
-        place = (self._most - request.entries) * PIECE.size if request.what == WALK else 0
+        count = len(request.data) // UNITS[request.what]
+        place = (self._most - count) * PIECE.size if request.what == WALK else 0
         self._room.memory[place : place + len(request.data)] = request.data
-        words = (request.what, request.thread, request.process, with_small, min(most, self._most), request.entries)
+        words = (request.what, request.thread, request.process, with_small, min(most, self._most), count)
         self.request, self.until = request, time.monotonic() + self.limit
         self.last, self._ran = self.until + PATIENCE * self.limit, None
         with suppress(OSError):  # it was killed: `end` then finds no answer

@@ -2,7 +2,6 @@
 
     queues       what the kernel's own structures contain of huge pages, by BPF; linux/common/reader has all else of them
     processes    which processes are looked at
-    rights       the rights that the tool has, tried on what it needs
     look         takes a look; snapshot: what it has read, and what was left out
     stored       stored snapshots, written, read back and checked
     page_plan    what decides what a split does with a huge page, and which pages can't be predicted

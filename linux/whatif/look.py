@@ -5,11 +5,10 @@ from __future__ import annotations
 import os
 import sys
 import time
+from collections import Counter
 from dataclasses import dataclass
-from functools import partial
 from typing import Any
 
-from ..common.contents import Progress
 from ..common.errors import Unavailable
 from ..common.files import BASE, PMD_ORDER, PTES_NONE, SWITCH, read
 from ..common.folios import Folio
@@ -17,12 +16,11 @@ from ..common.groups import find_hierarchy
 from ..common.kernel_memory import KernelMemory
 from ..common.machine import namespace_note
 from ..common.proc import group_names, machine_huge, name_of
-from ..common.reader import FREED, HIDDEN, MEMORY, Reader
+from ..common.reader import HIDDEN, MEMORY, Progress, Reader
 from ..common.second_look import Changes, SecondLook
 from ..common.text import escape
-from .processes import ProcessChoice
+from .processes import ProcessChoice, demand_reading
 from .queues import Queues, keep_lasting_pins
-from .rights import demand_reading
 from .snapshot import Snapshot, Sums
 
 
@@ -62,83 +60,58 @@ class SnapshotTaker:
         """Looks once. What can't be read is counted; a process that ends meanwhile isn't."""
         began = time.monotonic()
         choice.check()
-        reader = Reader(self._kernel, self.how.with_small, self.how.threads, self._progress, self.how.memory)
+        reader = Reader(self._kernel, self.how.with_small, self.how.threads, self._progress, self.how.memory, self._look)
+        places: dict[int, int] = {}
+        notes: list[str] = []
         try:
             reader.read_processes(choice.find(reader.unread))
             for process in sorted(reader.denied):
                 demand_reading(process)
-            page = BASE << PMD_ORDER
-            sums = Sums(by_pmd=reader.by_pmd * page)
-            changes, places = self._read_pages(reader)
-            sums.machine = machine_huge() if choice.everything and not namespace_note() else None
+            reader.read_all()
+            changes = SecondLook(reader).take()
+            with reader.timed("queues"):
+                keep_lasting_pins(reader.folios.values(), self._look)
+                if self._queues:
+                    places, notes = self._queues.places(reader.folios.values())
+            machine = machine_huge() if choice.everything and not namespace_note() else None
         finally:
             reader.close()
-        snapshot = self._gather(reader, choice, sums, places)
-        snapshot.changed_pages, snapshot.sampled, snapshot.changed = changes.pairs, changes.sampled, changes.changed
-        for folio in (folio for folio, _ in changes.pairs if folio):
-            self._place(folio, places)
+        for folio in [*reader.folios.values(), *(before for before, _ in changes.pairs if before)]:
+            folio.place = places.get(folio.frame)
+            if self.how.all_queued and folio.order == PMD_ORDER:
+                folio.is_queued = True
+        snapshot = self._gather(reader, changes)
+        snapshot.chosen, snapshot.sums.machine = choice.describe(), machine
+        snapshot.note = "; ".join(filter(None, [namespace_note(), *notes]))
         snapshot.seconds = time.monotonic() - began
         return snapshot
 
-    def _read_pages(self, reader: Reader) -> tuple[Changes, dict[int, int]]:
-        """Reads what else there is of the pages that processes map; returns what has changed meanwhile, and the places of pages
-        in their queues."""
-        reader.contents.begin(list(reader.folios.values()))
-        folios = list(reader.folios.values())
-        gone = reader.read_groups(folios) + self._look(reader, folios) + reader.read_counts(folios)
-        reader.read_contents()
-        for folio in {folio.frame: folio for folio in gone}.values():
-            reader.leave_out(folio, FREED)
-        look = partial(self._look, reader)
-        changes = SecondLook(reader, look).take()
-        if self._queues:
-            keep_lasting_pins(reader.folios.values(), look)
-        places: dict[int, int] = {}
-        if self._queues:
-            began = time.monotonic()
-            places, notes = self._queues.places(reader.folios.values())
-            reader.notes += notes
-            reader.spent["queues"] += time.monotonic() - began
-        return changes, places
-
-    def _look(self, reader: Reader, folios: list[Folio]) -> list[Folio]:
+    def _look(self, folios: list[Folio]) -> list[Folio]:
         """Reads what the kernel's own structures contain of pages; returns those that are no longer in use."""
-        began = time.monotonic()
-        gone = self._queues.look(folios) if self._queues else []
-        reader.spent["queues"] += time.monotonic() - began
-        return gone
+        return self._queues.look(folios) if self._queues else []
 
-    def _place(self, folio: Folio, places: dict[int, int]) -> None:
-        """Fills in a page's place in its queue."""
-        folio.place = places.get(folio.frame)
-        if self.how.all_queued and folio.order == PMD_ORDER:
-            folio.is_queued = True
-
-    def _gather(self, reader: Reader, choice: ProcessChoice, sums: Sums, places: dict[int, int]) -> Snapshot:
+    def _gather(self, reader: Reader, changes: Changes) -> Snapshot:
         folios = [reader.folios[frame] for frame in sorted(reader.folios)]
         for folio in folios:
-            self._place(folio, places)
             folio.mappings.sort()
-            if folio.known != folio.full:
-                reader.unread[HIDDEN] += 1
-        numbers = sorted({mapping.process for folio in folios for mapping in folio.mappings})
+        reader.unread += Counter({HIDDEN: sum(folio.known != folio.full for folio in folios)})
+        whole = [folio.known_pmd_mappings > 0 for folio in folios if folio.order == PMD_ORDER]
         page = BASE << PMD_ORDER
-        sums.distinct = sum(page for folio in folios if folio.order == PMD_ORDER and folio.known_pmd_mappings)
-        sums.by_parts = sum(page for folio in folios if folio.order == PMD_ORDER and not folio.known_pmd_mappings)
         return Snapshot(
             folios=folios,
-            processes={number: name_of(number) for number in numbers},
+            processes={number: name_of(number) for number in sorted({m.process for folio in folios for m in folio.mappings})},
             left_out=reader.left_out,
             unread=reader.unread,
-            note="; ".join(filter(None, [namespace_note(), *reader.notes])),
             looked_at=reader.looked_at,
             names=names_of_groups({folio.cgroup for folio in folios}),
-            chosen=choice.describe(),
             lacking=self.lacking,
             others=reader.others,
-            sums=sums,
+            sums=Sums(by_pmd=reader.by_pmd * page, distinct=whole.count(True) * page, by_parts=whole.count(False) * page),
             kernel=f"Linux {os.uname().release}",
             at=time.strftime("%Y-%m-%dT%H:%M:%SZ", time.gmtime()),
+            changed_pages=changes.pairs,
+            sampled=changes.sampled,
+            changed=changes.changed,
             spent=dict(reader.spent),
             **read_settings(),
         )

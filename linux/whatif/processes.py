@@ -1,4 +1,4 @@
-"""Which processes are looked at."""
+"""Which processes are looked at, and the rights that this needs: a missing right is named, and never read as `nothing is here`."""
 
 from __future__ import annotations
 
@@ -7,9 +7,9 @@ from collections import Counter
 from dataclasses import dataclass, field
 
 from ..common import proc
-from ..common.errors import InputFault
+from ..common.errors import InputFault, Unavailable
 from ..common.groups import checked_group
-from ..common.proc import is_own, members
+from ..common.proc import is_own, members, missing_capabilities
 from ..common.text import escape
 
 
@@ -48,3 +48,15 @@ class ProcessChoice:
             out |= set(proc.processes())
             out.discard(os.getpid())
         return out
+
+
+def demand_root() -> None:
+    """Unavailable for other users: page tables and frames of other processes are root's alone."""
+    if os.geteuid() != 0:
+        raise Unavailable("not root: frame numbers, other processes' memory and BPF are for root")
+
+
+def demand_reading(process: int) -> None:
+    """Unavailable where the capability is missing to read the memory of others: for a process that wasn't readable."""
+    if missing_capabilities("CAP_SYS_PTRACE"):
+        raise Unavailable(f"process {process} can't be read: CAP_SYS_PTRACE is missing")

@@ -14,9 +14,8 @@ from ..common.tool import run_tool
 from .options import parse_choice, parse_look_options, parser
 from .outputs import Output, open_output
 from .predictor import Predictor, load_library
-from .processes import ProcessChoice
+from .processes import ProcessChoice, demand_root
 from .report import look_json, look_of, moved_rows, parts_json, rows_json, status_of
-from .rights import demand_root
 from .rows import DEFAULT, OFF, find_highest, thresholds_of, with_today
 from .look import SnapshotTaker, show_progress
 from .snapshot import NAME, Snapshot, list_notes, warnings
