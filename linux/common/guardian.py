@@ -7,8 +7,7 @@ and standby run. Each packet is an order, one JSON object, which the guardian an
     {"file": PATH, "text": TEXT, "set": TEXT}   at the end, write the first TEXT into PATH; the tool writes the second one now
     {"group": PATH}                             make this control group; at the end, kill the processes in it, and remove it
                                                 with all groups in it
-    {"keep": NUMBER}                            at the end, kill the process whose pidfd comes with this order
-    {"forget": NUMBER}                          the process of that order has ended
+    {"keep": true}                              at the end, kill the process whose pidfd comes with this order
 
 Settings and groups are first written to the file `undo` of the tools' folder and synced, whole or not at all: an order that
 can't be stored is refused, and changes nothing. So whoever comes later can put back what was changed: a second process of
@@ -32,8 +31,7 @@ import signal
 import socket
 import sys
 import time
-from collections.abc import Iterator
-from contextlib import contextmanager, suppress
+from contextlib import suppress
 from typing import Any, Dict
 
 PATIENCE = 10.0  # seconds that processes get to end, and control groups to become empty
@@ -57,17 +55,15 @@ def read_entries(path: str) -> tuple[list[Entry], list[str]]:
         return [], []
     except OSError as error:
         return [], [f"{path} can't be read: {error.strerror}"]
-    out: list[Entry] = []
-    problems = []
+    out, problems = [], []
     for number, line in enumerate(lines, 1):
-        try:
-            entry = json.loads(line) if line else None
-        except (ValueError, RecursionError):
-            entry = ()
-        if isinstance(entry, dict):
-            out.append(entry)
-        elif line:
+        entry: object = None
+        with suppress(ValueError, RecursionError):
+            entry = json.loads(line or b"{}")
+        if not isinstance(entry, dict):
             problems.append(f"line {number} of {path} can't be read: what it was to put back isn't known")
+        elif entry:
+            out.append(entry)
     return out, problems
 
 
@@ -104,26 +100,17 @@ def replace_entries(path: str, entries: list[Entry]) -> None:
 # settings
 
 
-def write(path: str, text: str) -> str:
-    """Writes a text into a file that exists, by one write; returns what is wrong, or nothing."""
+def write(path: str | os.PathLike[str], text: object) -> None:
+    """Writes a text into a file that exists, by one write, as sysfs and cgroupfs need it."""
+    descriptor = os.open(path, os.O_WRONLY | os.O_TRUNC | os.O_CLOEXEC)
     try:
-        descriptor = os.open(path, os.O_WRONLY | os.O_TRUNC | os.O_CLOEXEC)
-        try:
-            os.write(descriptor, text.encode())
-        finally:
-            os.close(descriptor)
-    except OSError as error:
-        return error.strerror or type(error).__name__
-    return ""
+        os.write(descriptor, str(text).encode())
+    finally:
+        os.close(descriptor)
 
 
-def value_of(path: str) -> str:
-    """Returns the value that a setting has: the word in brackets, or all of it."""
-    try:
-        with open(path, "rb") as file:
-            text = file.read().decode("utf-8", "replace")
-    except OSError:
-        return ""
+def selected_word(text: str) -> str:
+    """Returns the value that a sysfs file holds: the word in brackets, or all of it."""
     marked = re.search(r"\[(.*?)\]", text)
     return marked[1] if marked else text.strip()
 
@@ -142,29 +129,33 @@ def settings_of(entries: list[Entry]) -> dict[str, list[str]]:
 def restore(path: str, texts: list[str]) -> str:
     """Gives a setting its first text back; returns what is wrong, or nothing. One that has none of these texts was changed by
     somebody else, and is left as it is."""
-    former = texts[0]
-    if len(texts) > 1:
-        now = value_of(path)
-        if now == former:
-            return ""
-        if now and now not in texts:
-            return f"{path} has been changed since to {now!r}: left as it is (it was {former!r} before)"
-    problem = write(path, former)
-    return f"{path} could not be put back to {former!r}: {problem}" if problem and os.path.exists(path) else ""
+    former, now = texts[0], ""
+    with suppress(OSError), open(path, "rb") as file:
+        now = selected_word(file.read().decode("utf-8", "replace"))
+    if len(texts) > 1 and now == former:
+        return ""
+    if len(texts) > 1 and now and now not in texts:
+        return f"{path} has been changed since to {now!r}: left as it is (it was {former!r} before)"
+    try:
+        write(path, former)
+    except OSError as error:
+        return f"{path} could not be put back to {former!r}: {error.strerror}" if os.path.exists(path) else ""
+    return ""
 
 
 # control groups
 
 
-def hierarchies() -> list[tuple[str, str, str]]:
-    """Returns the mounted control group hierarchies as (folder, type, options)."""
+def hierarchies(mounts: str | None = None) -> list[tuple[str, str, str]]:
+    """Returns the mounted control group hierarchies as (folder, type, options), by /proc/mounts or a text of its form."""
+    if mounts is None:
+        with open("/proc/self/mounts", "rb") as file:
+            mounts = file.read().decode("utf-8", "surrogateescape")
     out = []
-    with open("/proc/self/mounts", "rb") as file:
-        for line in file.read().split(b"\n"):
-            words = line.decode("utf-8", "surrogateescape").split(" ")
-            if len(words) > 3 and words[2] in ("cgroup", "cgroup2"):
-                folder = re.sub(r"\\([0-7]{3})", lambda found: chr(int(found[1], 8)), words[1])
-                out.append((folder, words[2], words[3]))
+    for words in (line.split(" ") for line in mounts.split("\n")):
+        if len(words) > 3 and words[2] in ("cgroup", "cgroup2"):
+            folder = re.sub(r"\\([0-7]{3})", lambda found: chr(int(found[1], 8)), words[1])
+            out.append((folder, words[2], words[3]))
     return out
 
 
@@ -172,7 +163,8 @@ def leave_groups() -> None:
     """Moves this process to the top of the hierarchies by which processes are ended or frozen, if that is allowed."""
     for folder, kind, options in hierarchies():
         if kind == "cgroup2" or set(HIERARCHIES) & set(options.split(",")):
-            write(f"{folder}/cgroup.procs", str(os.getpid()))
+            with suppress(OSError):
+                write(f"{folder}/cgroup.procs", os.getpid())
 
 
 def folders_below(path: str) -> list[str]:
@@ -200,47 +192,36 @@ def kill_members(group: str) -> bool:
     numbers = members(group)
     for first in range(0, len(numbers), AT_ONCE):
         pidfds = {}
-        try:
-            for number in numbers[first : first + AT_ONCE]:
-                with suppress(OSError):
-                    pidfds[number] = os.pidfd_open(number)
-            for number in pidfds.keys() & set(members(group)):
-                with suppress(OSError):
-                    signal.pidfd_send_signal(pidfds[number], signal.SIGKILL)
-        finally:
-            for descriptor in pidfds.values():
-                os.close(descriptor)
+        for number in numbers[first : first + AT_ONCE]:
+            with suppress(OSError):
+                pidfds[number] = os.pidfd_open(number)
+        still = members(group)
+        for number, pidfd in pidfds.items():
+            with suppress(OSError):
+                if number in still:
+                    signal.pidfd_send_signal(pidfd, signal.SIGKILL)
+            os.close(pidfd)
     return bool(numbers)
 
 
-@contextmanager
-def opened(entry: Entry) -> Iterator[str]:
-    """Gives the path of the control group of an entry by an open descriptor, so that no other folder can take its place;
-    nothing if it isn't the one that was made, or isn't known to be."""
-    descriptor = -1
-    try:
-        with suppress(OSError):
-            descriptor = os.open(str(entry["group"]), os.O_RDONLY | os.O_DIRECTORY | os.O_NOFOLLOW | os.O_CLOEXEC)
-        is_ours = descriptor >= 0 and os.fstat(descriptor).st_ino == entry.get("inode", 0)
-        yield f"/proc/self/fd/{descriptor}" if is_ours else ""
-    finally:
-        if descriptor >= 0:
-            os.close(descriptor)
-
-
 def kill_group(entry: Entry) -> bool:
-    """Kills the processes of a control group of ours and of those in it; returns whether there were any. Processes of a group
-    that isn't known to be ours are left alone."""
-    with opened(entry) as path:
-        if not path:
+    """Kills the processes of a control group of ours and of those in it, by an open descriptor, so that no other folder can take
+    its place; returns whether there were any. Processes of a group that isn't known to be ours are left alone."""
+    try:
+        descriptor = os.open(str(entry["group"]), os.O_RDONLY | os.O_DIRECTORY | os.O_NOFOLLOW | os.O_CLOEXEC)
+    except OSError:
+        return False
+    try:
+        if os.fstat(descriptor).st_ino != entry.get("inode", 0):
             return False
-        folders = folders_below(path)
+        folders = folders_below(f"/proc/self/fd/{descriptor}")
         for folder in folders:  # a frozen process of version 1 ends once it is thawed
-            for name, text in (("freezer.state", "THAWED"), ("cgroup.freeze", "0")):
-                if os.path.exists(f"{folder}/{name}"):
+            for name, text in (("freezer.state", "THAWED"), ("cgroup.freeze", "0"), ("cgroup.kill", "1")):
+                with suppress(OSError):
                     write(f"{folder}/{name}", text)
-        write(f"{path}/cgroup.kill", "1")
         return any([kill_members(folder) for folder in folders])
+    finally:
+        os.close(descriptor)
 
 
 def empty_groups(entries: list[Entry], until: float) -> bool:
@@ -310,13 +291,23 @@ def put_back(entries: list[Entry], pidfds: list[int]) -> tuple[list[str], list[E
     return [text for text in problems.values() if text] + lines, left
 
 
+def close_if_ended(pidfd: int) -> bool:
+    """Closes the pidfd of a process that has ended; returns whether it has."""
+    try:
+        signal.pidfd_send_signal(pidfd, 0)
+    except ProcessLookupError:
+        os.close(pidfd)
+        return True
+    return False
+
+
 class Guardian:
     """What is to be put back, in memory and on disk below `folder`, and the processes to kill."""
 
     def __init__(self, folder: str) -> None:
         self._undo = f"{folder}/{UNDO}"
         self._entries: list[Entry] = []
-        self._kept: dict[int, int] = {}  # pidfds by the tool's numbers
+        self._kept: list[int] = []  # pidfds
 
     def take(self, order: Entry, descriptors: list[int]) -> str:
         """Carries out one order, and returns the answer."""
@@ -324,12 +315,8 @@ class Guardian:
             self._add({name: str(order[name]) for name in ("file", "text", "set")})
         elif "group" in order:
             self._make_group(str(order["group"]))
-        elif "keep" in order:
-            self._kept[int(order["keep"])] = os.dup(descriptors[0])
         else:
-            descriptor = self._kept.pop(int(order["forget"]), None)
-            if descriptor is not None:
-                os.close(descriptor)
+            self._kept = [pidfd for pidfd in self._kept if not close_if_ended(pidfd)] + [os.dup(descriptors[0])]
         return "ok"
 
     def _add(self, entry: Entry) -> None:
@@ -352,7 +339,7 @@ class Guardian:
 
     def end(self) -> list[str]:
         """Puts everything back, and returns what could not be put back."""
-        problems, left = put_back(self._entries, list(self._kept.values()))
+        problems, left = put_back(self._entries, self._kept)
         replace_entries(self._undo, left)
         return problems
 
@@ -399,13 +386,6 @@ def serve(tool: socket.socket, guardian: Guardian) -> None:
         tool.send(answer.encode("utf-8", "replace"))
 
 
-def await_standby(number: int) -> None:
-    """Waits a while until the standby has ended: it has the tool's lock, too."""
-    until = time.monotonic() + STANDBY_PATIENCE
-    while os.waitpid(number, os.WNOHANG)[0] == 0 and time.monotonic() < until:
-        time.sleep(0.001)
-
-
 def main() -> int:
     """Starts the standby, and serves the tool: words are its pidfd and the tools' folder."""
     for each in (signal.SIGINT, signal.SIGTERM, signal.SIGHUP, signal.SIGQUIT, signal.SIGPIPE, signal.SIGTSTP):
@@ -426,6 +406,7 @@ def main() -> int:
         os.open(os.devnull, os.O_RDONLY)  # descriptor 0
         return stand_by(theirs, pidfd, folder)
     theirs.close()
+    waiting = os.pidfd_open(standby)
     guardian = Guardian(folder)
     with suppress(OSError):  # the tool ended between order and answer
         serve(tool, guardian)
@@ -433,7 +414,7 @@ def main() -> int:
     with suppress(OSError):
         ours.send(b"done")
     ours.close()
-    await_standby(standby)
+    select.select([waiting], [], [], STANDBY_PATIENCE)  # it has the tool's lock, too
     return status
 
 

@@ -159,11 +159,9 @@ class Keeper:
     """Holds the lock from its making to its end. Busy if another tool has it; `wait`: waits for that tool's end."""
 
     def __init__(self, name: str, wait: bool = False, folder: str = FOLDER) -> None:
-        self._folder = folder
         self._lock = take_lock(folder, name, wait)
         for line in put_back_what_was_left(folder):
             print(f"{name}: {line}", file=sys.stderr, flush=True)
-        self._former: dict[str, str] = {}
         self._guardian: subprocess.Popen[bytes] | None = None
         try:
             self._socket, theirs = socket.socketpair(socket.AF_UNIX, socket.SOCK_SEQPACKET)
@@ -196,14 +194,12 @@ class Keeper:
 
     def set(self, path: PathText, value: object, undo: str | None = None) -> None:
         """Writes a setting. At the end its former value comes back, or `undo` if the file doesn't show its value."""
-        name, now = str(path), ""
+        name, text = str(path), str(value) if undo is None else ""
         try:
-            if undo is None:
-                now = selected_word(read(name))
-                if now == str(value):
-                    return
-            former = self._former.setdefault(name, now if undo is None else undo)
-            self._send_order({"file": name, "text": former, "set": "" if undo is not None else str(value)})
+            former = selected_word(read(name)) if undo is None else undo
+            if former == text:
+                return
+            self._send_order({"file": name, "text": former, "set": text})
             write(name, value)
         except OSError as error:
             raise Unavailable(f"{name} can't be set to {value}: {error.strerror}") from error
@@ -219,17 +215,13 @@ class Keeper:
         """Passes a child of the tool to the guardian; it doesn't outlive the tool."""
         descriptor = os.pidfd_open(process)
         try:
-            self.own_descriptor(descriptor, process)
+            self.own_descriptor(descriptor)
         finally:
             os.close(descriptor)
 
-    def own_descriptor(self, descriptor: int, number: int = 0) -> None:
+    def own_descriptor(self, descriptor: int) -> None:
         """Passes a process to the guardian by its pidfd, which the caller may close afterwards."""
-        self._send_order({"keep": number or process_of(descriptor)}, [descriptor])
-
-    def disown(self, process: int) -> None:
-        """Notes that such a process has ended."""
-        self._send_order({"forget": process})
+        self._send_order({"keep": True}, [descriptor])
 
     def close(self) -> None:
         """Has the guardian restore everything, and waits for it. The guardian reports what it could not restore on
