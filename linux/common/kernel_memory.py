@@ -14,8 +14,7 @@ from typing import NamedTuple, Sequence
 
 from .errors import Unavailable
 from .files import BASE, read
-from .kernel_library import STATES, WINDOW, PageState, Request, load_library, open_programs
-__all__ = ["STATES", "KernelMemory", "ListChanged", "PageState", "Queue", "numa_nodes"]
+from .kernel_library import PageState, Request, load_library, open_programs
 
 TRIES = 20  # walks of a list that changes
 LONGEST = 1 << 20  # pages of a queue
@@ -33,8 +32,7 @@ class ListChanged(Unavailable):
 
 
 class Tables(NamedTuple):
-    """What reads page tables (struct tables of pages.c): two programs, where their copies are, where the map of all memory begins, the
-    levels of tables."""
+    """What reads page tables: struct tables of pages.c, without its place."""
 
     find: int
     copy: int
@@ -62,7 +60,6 @@ class KernelMemory:
         self._programs = open_programs("thp_memory_open")[0]
         self._window = self._library.thp_memory_window(self._programs).contents
         self._answer = self._try("describe_kernel", Request())  # of the queues; all else works without
-        self._numa_nodes: list[int] = []
         self._map = self._levels = 0
 
     def _try(self, name: str, request: Request) -> int:
@@ -107,10 +104,7 @@ class KernelMemory:
 
     def numa_nodes(self) -> Sequence[int | None]:
         """Returns the NUMA nodes for which a control group has a queue each; None: one queue has the pages of all."""
-        if not self._window.has_lists:
-            return [None]
-        self._numa_nodes = self._numa_nodes or numa_nodes()
-        return self._numa_nodes
+        return numa_nodes() if self._window.has_lists else (None,)
 
     def locate_queues(self) -> str:
         """Returns where this kernel has the queues, in words. Unavailable where they can't be read."""
@@ -220,6 +214,3 @@ def numa_nodes() -> list[int]:
         return [0]
     ranges = [part.split("-") for part in read(NUMA_NODES).strip().split(",") if part]
     return [node for part in ranges for node in range(int(part[0]), int(part[-1]) + 1)]
-
-
-assert ctypes.sizeof(PageState) == 32 and WINDOW * 8 < 1 << 20

@@ -18,7 +18,7 @@ from .files import read_bytes
 from .text import escape, lines
 
 ROOT = "/proc"  # tests put another folder here
-CAPABILITIES = {"CAP_KILL": 5, "CAP_SYS_PTRACE": 19, "CAP_SYS_ADMIN": 21, "CAP_PERFMON": 38, "CAP_BPF": 39}
+CAPABILITIES = {"CAP_SYS_PTRACE": 19, "CAP_SYS_ADMIN": 21, "CAP_PERFMON": 38, "CAP_BPF": 39}
 FLAGS, SIZE, RESIDENT, FIELDS = 6, 20, 21, 49  # places of fields of /proc/PID/stat after the name, and how many there are
 FOLDER = os.O_RDONLY | os.O_DIRECTORY | os.O_NOFOLLOW | os.O_CLOEXEC
 KERNFS_HANDLE = 0xFE  # include/linux/exportfs.h: FILEID_KERNFS

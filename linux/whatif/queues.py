@@ -12,7 +12,8 @@ from typing import Callable, Iterable
 
 from ..common.errors import Unavailable
 from ..common.folios import Folio, even_counts
-from ..common.kernel_memory import STATES, KernelMemory, PageState
+from ..common.kernel_library import STATES, PageState
+from ..common.kernel_memory import KernelMemory
 
 
 def keep_lasting_pins(folios: Iterable[Folio], look: Callable[[list[Folio]], object]) -> None:
