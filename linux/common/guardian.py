@@ -1,8 +1,7 @@
 """The guardian of a run: puts the machine back when the tool ends, however it ends.
 
-It knows three things: settings, control groups that it made itself, and processes that the tool started. The tool starts
-this file as a process of its own session, with a socket (SOCK_SEQPACKET) as standard input; `ok` comes back once guardian
-and standby run. Each packet is an order, one JSON object, which the guardian answers by `ok` or by what is wrong:
+The tool starts this file as a process of its own session, with a socket (SOCK_SEQPACKET) as standard input; `ok` comes back
+once guardian and standby run. Each packet is an order, a JSON object, which is answered by `ok` or by what is wrong:
 
     {"file": PATH, "text": TEXT, "set": TEXT}   at the end, write the first TEXT into PATH; the tool writes the second one now
     {"group": PATH}                             make this control group; at the end, kill the processes in it, and remove it
@@ -10,14 +9,12 @@ and standby run. Each packet is an order, one JSON object, which the guardian an
     {"keep": true}                              at the end, kill the process whose pidfd comes with this order
 
 Settings and groups are first written to the file `undo` of the tools' folder and synced, whole or not at all: an order that
-can't be stored is refused, and changes nothing. So whoever comes later can put back what was changed: a second process of
-this file (the standby), which takes over if the guardian is killed, and the next start of a tool, if all three are killed.
-The guardian and its standby leave the tool's control groups, so that what ends or freezes a group reaches neither.
+can't be stored is refused. So a second process of this file (the standby) puts everything back if the guardian is killed, and
+the next start of a tool if all three are. Both leave the tool's control groups: what ends or freezes a group reaches neither.
 
-The end is the end of the socket: it comes also if the tool is killed. The tool's lock is inherited, so no other tool
-begins before all is put back. What could not be put back is reported on standard error, the status is then 1, and the next
-start of a tool tries again. Nothing of the package is imported, so that an error in the package can't keep the guardian
-from its work.
+The end is the end of the socket: it comes also if the tool is killed. The tool's lock is inherited, so no other tool begins
+before all is put back. What could not be put back is reported on standard error, with status 1, and tried again by the next
+start of a tool. Nothing of the package is imported, so that no error in it can keep the guardian from its work.
 """
 
 from __future__ import annotations
@@ -68,8 +65,7 @@ def read_entries(path: str) -> tuple[list[Entry], list[str]]:
 
 
 def add_entry(path: str, entry: Entry) -> None:
-    """Adds an entry to a file of orders and waits until it is stored. OSError if not all of it can be; the file is then as it
-    was."""
+    """Adds an entry to a file of orders, and syncs it. OSError if not all of it can be stored; the file is then as it was."""
     data = json.dumps(entry).encode() + b"\n"
     descriptor = os.open(path, os.O_WRONLY | os.O_CREAT | os.O_APPEND | os.O_NOFOLLOW | os.O_CLOEXEC, 0o600)
     try:
@@ -250,20 +246,15 @@ def remove_group(path: str, until: float) -> str:
 
 
 def groups_of(entries: list[Entry]) -> list[Entry]:
-    """Returns the entry of each control group, with its inode if that is known; those in others first."""
-    out: dict[str, Entry] = {}
-    for entry in entries:
-        if "group" in entry:
-            out[str(entry["group"])] = entry
-    return sorted(out.values(), key=lambda entry: -str(entry["group"]).count("/"))
-
-
-def is_another(entry: Entry) -> bool:
-    """Returns whether a control group has gone, or another one has its name."""
-    try:
-        return os.stat(str(entry["group"])).st_ino != entry.get("inode", 0) and bool(entry.get("inode"))
-    except OSError:
-        return True
+    """Returns the entry of each control group, with its inode if that is known; those in others first. Groups that have gone, or
+    whose name another one has, have none."""
+    last = {str(entry["group"]): entry for entry in entries if "group" in entry}
+    out = []
+    for path, entry in sorted(last.items(), key=lambda item: -item[0].count("/")):
+        with suppress(OSError):
+            if os.stat(path).st_ino == entry.get("inode") or not entry.get("inode"):
+                out.append(entry)
+    return out
 
 
 # all of it
@@ -279,7 +270,7 @@ def put_back(entries: list[Entry], pidfds: list[int]) -> tuple[list[str], list[E
         with suppress(OSError):
             signal.pidfd_send_signal(descriptor, signal.SIGKILL)
     until, left, lines = time.monotonic() + PATIENCE, [], []
-    groups = [entry for entry in groups_of(entries) if not is_another(entry)]
+    groups = groups_of(entries)
     empty_groups(groups, until)
     for entry in groups:
         problem = remove_group(str(entry["group"]), until if entry.get("inode") else 0.0)
@@ -316,7 +307,8 @@ class Guardian:
         elif "group" in order:
             self._make_group(str(order["group"]))
         else:
-            self._kept = [pidfd for pidfd in self._kept if not close_if_ended(pidfd)] + [os.dup(descriptors[0])]
+            self._kept = [pidfd for pidfd in self._kept if not close_if_ended(pidfd)]
+            self._kept.append(os.dup(descriptors[0]))
         return "ok"
 
     def _add(self, entry: Entry) -> None:
@@ -360,8 +352,7 @@ def report(problems: list[str]) -> int:
 
 
 def stand_by(guardian: socket.socket, tool: int, folder: str) -> int:
-    """Waits until the guardian has ended. If it was killed, this puts everything back once the tool has ended (`tool` is its
-    pidfd)."""
+    """Waits until the guardian has ended. If it was killed, puts everything back once the tool (a pidfd) has ended."""
     if guardian.recv(PACKET) == b"done":
         return 0
     select.select([tool], [], [])
@@ -379,8 +370,6 @@ def serve(tool: socket.socket, guardian: Guardian) -> None:
             answer = guardian.take(json.loads(packet), descriptors)
         except OSError as error:
             answer = error.strerror or str(error)
-        except (ValueError, KeyError, IndexError, TypeError) as error:
-            answer = f"the guardian can't do that: {error}"
         for descriptor in descriptors:
             os.close(descriptor)
         tool.send(answer.encode("utf-8", "replace"))

@@ -5,15 +5,13 @@
         keeper.make_group(path)              # removed, with its processes killed
         keeper.own(process.pid)              # killed if it still runs
 
-A guardian (guardian.py) does so at an exception, a signal and SIGKILL of the tool alike. What is to be put back is on disk
-below /run/leversorrel before each change, so that if the guardian is killed too, its standby or the next start of any
-tool puts it back (`recover`).
+A guardian (guardian.py) does so at an exception, a signal and SIGKILL of the tool alike. What is to be put back is on disk before
+each change, so that if the guardian is killed too, its standby or the next start of any tool puts it back (`recover`).
 """
 
 from __future__ import annotations
 
 import ctypes
-import errno
 import fcntl
 import json
 import os
@@ -23,6 +21,7 @@ import stat
 import subprocess
 import sys
 from collections.abc import Sequence
+from contextlib import suppress
 from pathlib import Path
 from typing import Any
 
@@ -36,6 +35,7 @@ HOLDER = "lock"  # names who has the lock
 SHARED = ("tracefs", "debugfs")  # file systems that a kernel has once, whose root folder only root opens
 FSOPEN, FSCONFIG, FSMOUNT = 430, 431, 432  # system calls, the same on all processors
 CREATE, CLOSE_ON_EXEC = 6, 1  # FSCONFIG_CMD_CREATE; FSOPEN_CLOEXEC, FSMOUNT_CLOEXEC
+KINDS = {"file": "settings", "group": "control groups"}  # of entries
 GUARDIAN = Path(__file__).with_name("guardian.py")
 ENDED = "the guardian has ended: nothing more may be changed"
 
@@ -43,10 +43,8 @@ ENDED = "the guardian has ended: nothing more may be changed"
 def open_folder(folder: str) -> None:
     """Makes the tools' folder if it is missing. Unavailable if it isn't the caller's own, mode 0700."""
     try:
-        try:
+        with suppress(FileExistsError):
             os.mkdir(folder, 0o700)
-        except FileExistsError:
-            pass
         found = os.lstat(folder)
     except OSError as error:
         raise Unavailable(f"{folder} can't be made: {error.strerror}") from error
@@ -82,38 +80,34 @@ def open_lock(folder: str) -> int:
     open_folder(folder)
     if folder != FOLDER:
         return os.open(folder, os.O_RDONLY | os.O_DIRECTORY | os.O_CLOEXEC)
-    problem: OSError | None = None
+    reason: str | None = None
     for kind in SHARED:
         try:
             return open_shared(kind)
         except OSError as error:
-            problem = error
-    raise Unavailable(f"the machine's lock ({' or '.join(SHARED)}) can't be opened: {problem and problem.strerror}")
+            reason = error.strerror
+    raise Unavailable(f"the machine's lock ({' or '.join(SHARED)}) can't be opened: {reason}")
 
 
 def take_lock(folder: str, name: str, wait: bool) -> int:
-    """Returns the lock's descriptor once it is held. Busy, with the holder's name, if it is taken; `wait`: waits until it
-    is free."""
-    lock = open_lock(folder)
-    named = os.open(f"{folder}/{HOLDER}", os.O_RDWR | os.O_CREAT | os.O_NOFOLLOW | os.O_CLOEXEC, 0o600)
+    """Returns the lock's descriptor once it is held. Busy, with the holder's name, if it is taken; `wait`: waits until it is free."""
+    lock, named = open_lock(folder), f"{folder}/{HOLDER}"
     try:
         try:
             fcntl.flock(lock, fcntl.LOCK_EX | fcntl.LOCK_NB)
-        except OSError as error:
-            if error.errno not in (errno.EAGAIN, errno.EACCES):
-                raise Unavailable(f"the lock can't be taken: {error.strerror}") from error
-            holder = escape(os.pread(named, 200, 0)).replace("\\x0a", "") or "another tool"
+        except BlockingIOError as error:
+            holder = "another tool"
+            with suppress(OSError):
+                holder = escape(read_bytes(named)[:200]).replace("\\x0a", "") or holder
             if not wait:
                 raise Busy(f"{holder} is running (--wait waits until it has ended)") from error
             print(f"{name}: waiting until {holder} has ended", file=sys.stderr, flush=True)
             fcntl.flock(lock, fcntl.LOCK_EX)
-        os.ftruncate(named, 0)
-        os.pwrite(named, f"{name}, process {os.getpid()},\n".encode(), 0)
+        with open(named, "w", encoding="ascii", opener=lambda path, flags: os.open(path, flags | os.O_NOFOLLOW, 0o600)) as file:
+            file.write(f"{name}, process {os.getpid()},\n")
     except BaseException:
         os.close(lock)
         raise
-    finally:
-        os.close(named)
     return lock
 
 
@@ -122,17 +116,13 @@ def put_back_what_was_left(folder: str) -> list[str]:
     if not os.path.exists(f"{folder}/{UNDO}"):
         return []
     entries, problems = put_back_all(folder)
-    counts = {
-        "settings": len({str(entry["file"]) for entry in entries if "file" in entry}),
-        "control groups": len({str(entry["group"]) for entry in entries if "group" in entry}),
-    }
+    counts = {what: len({entry[key] for entry in entries if key in entry}) for key, what in KINDS.items()}
     found = ", ".join(f"{count} {what}" for what, count in counts.items() if count)
     return [f"put back what a killed run left: {found or 'nothing'}", *map(escape, problems)]
 
 
 def recover(name: str, folder: str = FOLDER) -> list[str]:
-    """Puts back what an earlier run left that was killed with its guardian, and returns lines that report it. Does
-    nothing without the rights for it, and while another tool runs."""
+    """Puts back the same with the lock, and returns these lines. Does nothing without root's rights, and while another tool runs."""
     if os.geteuid() != 0 or not os.path.exists(f"{folder}/{UNDO}"):
         return []
     try:
@@ -224,8 +214,7 @@ class Keeper:
         self._send_order({"keep": True}, [descriptor])
 
     def close(self) -> None:
-        """Has the guardian restore everything, and waits for it. The guardian reports what it could not restore on
-        standard error."""
+        """Has the guardian restore everything, and waits for it. It reports on standard error what it could not restore."""
         guardian, self._guardian = self._guardian, None
         if guardian is None:
             return
@@ -236,11 +225,8 @@ class Keeper:
     def _send_order(self, order: dict[str, Any], descriptors: Sequence[int] = ()) -> None:
         """Gives the guardian an order. RunFailed if it doesn't carry it out."""
         answer = b""
-        if self._guardian is not None:
-            try:
-                socket.send_fds(self._socket, [json.dumps(order).encode()], list(descriptors))
-                answer = self._socket.recv(PACKET)
-            except OSError:
-                pass  # it was killed
+        with suppress(OSError):  # it was killed, or `close` was called
+            socket.send_fds(self._socket, [json.dumps(order).encode()], list(descriptors))
+            answer = self._socket.recv(PACKET)
         if answer != b"ok":
             raise RunFailed(answer.decode("utf-8", "replace") or ENDED)
