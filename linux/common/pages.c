@@ -1,15 +1,14 @@
 /* What a look at huge pages reads in bulk, as a shared library for linux/common/workers.py.
  *
- *   start_worker    a process that reads what may wait for another process's mmap_lock: page tables, smaps, mem
+ *   start_worker    a process that reads what may wait for another process's mmap_lock: page tables, maps, smaps
  *   scan_frames     which subpages of many huge pages are zero-filled, by a BPF program, in threads
- *
- * All of them only read. Content is not read by process_vm_readv: that pins what it reads, and a pin of a page that a fork
- * shares makes the kernel copy it first (FAULT_FLAG_UNSHARE in mm/gup.c).
  */
 #define _GNU_SOURCE
 #include <errno.h>
 #include <fcntl.h>
+#include <linux/bpf.h>
 #include <pthread.h>
+#include <sched.h>
 #include <signal.h>
 #include <stdint.h>
 #include <stdio.h>
@@ -21,7 +20,7 @@
 #include <unistd.h>
 
 enum { BASE = 4096, BLOCK = 512, PMD_ORDER = 9, RECENT = 64, TEXT = 1 << 16, LINE = 256, BLOCKS = 1 << 18, TOUCHES = 16,
-       CLONE_WITH_PIDFD = 4096, SYS_CLOSE_RANGE = 436 };
+       WORD = 64, MOST_THREADS = 16 };
 
 /* arch/x86/include/asm/pgtable_types.h */
 enum { PRESENT = 1, LEAF = 1 << 7, NO_ACCESS = 1 << 8, ENTRIES = 512, TABLE_BITS = 9 };
@@ -38,8 +37,8 @@ struct piece {
     uint64_t set[BLOCK / 64];
 };
 
-/* Whether a block of frames has huge anonymous pages, once it was touched often: most memory has none. A number with the
- * block in the high half, the touches, and one of these states in the last two bits. Workers share the table. */
+/* Whether a block of frames has huge anonymous pages, once it was touched often: the block in the high half, the touches, and one
+ * of these states in the last two bits. Most memory has none. Workers share the table. */
 enum { UNKNOWN, NONE, SOME, STATES };
 typedef uint64_t known;
 
@@ -63,20 +62,10 @@ struct tables {
     int64_t levels, place;              /* levels of tables; which copy is ours */
 };
 
-/* include/uapi/linux/bpf.h: BPF_PROG_TEST_RUN */
-enum { SYS_BPF = 321, TEST_RUN = 10, WORD = 64, MOST_THREADS = 16 };
-struct test_run {
-    uint32_t program, answer, in_size, out_size;
-    uint64_t in, out;
-    uint32_t repeat, duration, context_size, context_out_size;
-    uint64_t context, context_out;
-    uint32_t flags, cpu, batch_size, unused;
-};
-
 /* Runs a BPF program once; returns whether its answer is 0. */
 static int run_program(int program, void *context, long size) {
-    struct test_run run = { .program = (uint32_t)program, .context_size = (uint32_t)size, .context = (uintptr_t)context };
-    return syscall(SYS_BPF, TEST_RUN, &run, sizeof run) >= 0 && !run.answer;
+    union bpf_attr run = { .test = { .prog_fd = program, .ctx_size_in = size, .ctx_in = (uintptr_t)context } };
+    return syscall(SYS_bpf, BPF_PROG_TEST_RUN, &run, sizeof run) >= 0 && !run.test.retval;
 }
 
 /* linux/kernel/shared.h: struct thp_request */
@@ -213,15 +202,11 @@ static void walk_table(struct walk *w, uint64_t table, int level, uint64_t begin
 
 struct span { uint64_t low, high; };
 
-static int has_bit(const uint64_t *set, long i) {
-    return set[i / 64] >> i % 64 & 1;
-}
-
 /* The blocks of addresses that a piece lies in. */
 static struct span blocks_of(const struct piece *p) {
-    long first = 0, last = (1l << p->order) - 1;
-    while (first < last && !has_bit(p->set, first)) first++;
-    while (last > first && !has_bit(p->set, last)) last--;
+    long first = 0, last = BLOCK - 1;
+    while (!(p->set[first / 64] >> first % 64 & 1)) first++;
+    while (!(p->set[last / 64] >> last % 64 & 1)) last--;
     return (struct span){ (p->address + first * BASE) & -(uint64_t)(BLOCK * BASE),
                           ((p->address + last * BASE) | (BLOCK * BASE - 1)) + 1 };
 }
@@ -380,10 +365,10 @@ int start_worker(struct room *room, int flags_file, int *ends) {
     if (socketpair(AF_UNIX, SOCK_SEQPACKET | SOCK_CLOEXEC, 0, sockets)) return -errno;
     sigfillset(&all);
     pthread_sigmask(SIG_SETMASK, &all, &before);
-    long child = syscall(SYS_clone, CLONE_WITH_PIDFD | SIGCHLD, 0, &ends[1], 0, 0), error = errno;
+    long child = syscall(SYS_clone, CLONE_PIDFD | SIGCHLD, 0, &ends[1], 0, 0), error = errno;
     if (!child) {
         if (!prctl(PR_SET_PDEATHSIG, SIGKILL) && getppid() == parent && dup2(sockets[1], 0) == 0 && dup2(flags_file, 1) == 1 &&
-            dup2(room->tables.find, 2) == 2 && dup2(room->tables.copy, 3) == 3 && !syscall(SYS_CLOSE_RANGE, 4, ~0u, 0)) {
+            dup2(room->tables.find, 2) == 2 && dup2(room->tables.copy, 3) == 3 && !close_range(4, ~0u, 0)) {
             room->tables.find = 2;
             room->tables.copy = 3;
             serve(room);
