@@ -112,7 +112,7 @@ class Reader:
                 continue
             try:
                 space = self.spaces[request.process]
-                if not proc.is_ended(error):
+                if not isinstance(error, proc.ENDED):
                     raise error
                 if space.is_alive():
                     todo.append(request._replace(thread=space.thread.number))

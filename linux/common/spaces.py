@@ -14,7 +14,7 @@ from dataclasses import dataclass
 from typing import Iterable, NamedTuple
 
 from . import proc
-from .proc import FLAGS, RESIDENT, SIZE, Unreadable, stat_fields
+from .proc import ENDED, FLAGS, RESIDENT, SIZE, Unreadable, stat_fields
 from .workers import FIND_TABLES, SECONDS, WALK, Request, Workers
 
 KTHREAD = 0x200000  # include/linux/sched.h: PF_KTHREAD, a thread of the kernel
@@ -56,14 +56,13 @@ class Space:
 
 
 def live_thread(process: int) -> Thread | None:
-    """Returns a thread of a process that has memory; None for a thread of the kernel, and a process that has ended. OSError or
-    Unreadable where that can't be found."""
+    """Returns a thread of a process that has memory; None for a thread of the kernel, and a process that has ended."""
     fields = stat_fields(process)
     if not fields or fields[SIZE] != b"0" or int(fields[FLAGS]) & KTHREAD:
         return thread_of(process, fields)
     try:
-        tasks = os.listdir(proc.path_of(process, "task"))
-    except (FileNotFoundError, ProcessLookupError):
+        tasks = os.listdir(f"{proc.ROOT}/{process}/task")
+    except ENDED:
         return None
     return next(filter(None, (thread_of(int(task), stat_fields(int(task))) for task in tasks)), None)
 
@@ -74,7 +73,7 @@ def thread_of(number: int, fields: list[bytes]) -> Thread | None:
         return None
     pages = int(fields[RESIDENT])
     if pages > MANY:
-        with suppress(FileNotFoundError, ProcessLookupError):  # it ended
+        with suppress(*ENDED):  # it ended
             resident, shared = proc.read_file(number, "statm").split()[1:3]
             pages = int(resident) - int(shared)
     return Thread(number, max(0, pages), (*fields[23:26], *fields[42:49]))
@@ -93,16 +92,13 @@ def find_spaces(processes: Iterable[int], workers: Workers, unread: Counter[str]
         if thread:
             threads[process] = thread
             alike[thread.key].append(process)
-    requests = deque(tables_request([threads[process].number for process in group], group[0]) for group in alike.values() if group[1:])
+    groups = {group[0]: array("Q", (threads[process].number for process in group)) for group in alike.values() if group[1:]}
+    todo = deque(Request(process, FIND_TABLES, SECONDS + SECONDS_A_PROCESS * len(group), group.tobytes())
+                 for process, group in groups.items())
     tables: dict[int, int] = {}
-    for request, answer in workers.ask(requests):
+    for request, answer in workers.ask(todo):
         tables.update(zip(alike[threads[request.process].key], array("Q", answer.data if answer else b"")))
     spaces: dict[int, Space] = {}
     for process, thread in threads.items():  # those whose table isn't found are walked each
         spaces.setdefault(tables.get(process) or -process, Space(process, thread, [])).sharing.append(process)
     return list(spaces.values())
-
-
-def tables_request(threads: list[int], process: int) -> Request:
-    """Returns the request to find the page tables of threads."""
-    return Request(process, FIND_TABLES, SECONDS + SECONDS_A_PROCESS * len(threads), array("Q", threads).tobytes())
