@@ -27,10 +27,6 @@ REASONS = {
 }
 
 
-class ListChanged(Unavailable):
-    """A list changed during each of the walks."""
-
-
 class Tables(NamedTuple):
     """What reads page tables: struct tables of pages.c, without its place."""
 
@@ -63,19 +59,20 @@ class KernelMemory:
         self._map = self._levels = 0
 
     def _try(self, name: str, request: Request) -> int:
+        """Runs a program; returns its answer."""
         answer = int(self._library.thp_memory_run(self._programs, name.encode(), ctypes.byref(request)))
         if answer < 0:
             raise Unavailable(f"a BPF program can't be run: {os.strerror(-answer)}")
         return answer
 
     def _demand(self, answer: int) -> None:
+        """Unavailable, with the reason, where a program finds nothing."""
         if answer == NO_FIELD:
             raise Unavailable(f"this kernel has no {self._window.lacking.decode()}")
         if answer:
             raise Unavailable(REASONS[answer])
 
     def _run(self, name: str, **numbers: int) -> Request:
-        """Runs a program. Unavailable, with the reason, where it finds nothing."""
         request = Request(**numbers)
         self._demand(self._try(name, request))
         return request
@@ -119,21 +116,16 @@ class KernelMemory:
 
     def _queue(self, group: int, node: int) -> Queue:
         for _ in range(TRIES):
-            request = Request(group=group, numa_node=node)
+            request, answer = Request(group=group, numa_node=node), 0
             folios: list[int] = []
-            while len(folios) < LONGEST:
+            while answer != CHANGED and len(folios) < LONGEST:
                 answer = self._try("read_queue", request)
-                if answer == CHANGED:
-                    break
-                self._demand(answer)
-                folios += self._window.folios[: request.found]
-                if not request.at:
-                    return Queue(folios, request.length, node)
-        raise ListChanged(f"the queue of {group:#x} changes all the time")
-
-    def queue_frames(self, group: int) -> list[int]:
-        """Returns the first frames of the pages in a control group's queues, oldest first in each."""
-        return [self.frame(folio) for queue in self.queues(group) for folio in queue.folios]
+                if answer != CHANGED:
+                    self._demand(answer)
+                    folios += self._window.folios[: request.found]
+                    if not request.at:
+                        return Queue(folios, request.length, node)
+        raise Unavailable(f"the queue of {group:#x} changes all the time")
 
     # structures of pages
 

@@ -1,6 +1,5 @@
 """How much memory would the shrinker of transparent huge pages free now? The program is thpwhatif (docs/WHATIF.md).
 
-    queues       what the kernel's own structures contain of huge pages, by BPF; linux/common/reader has all else of them
     processes    which processes are looked at
     look         takes a look; snapshot: what it has read, and what was left out
     stored       stored snapshots, written, read back and checked

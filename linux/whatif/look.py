@@ -1,4 +1,8 @@
-"""Takes a look at the huge pages of processes."""
+"""Takes a look at the huge pages of processes: linux/common/reader, and what the kernel's own structures contain, by BPF.
+
+Rules: include/linux/mm_types.h (struct folio), include/linux/page-flags.h (PG_partially_mapped of the second page),
+mm/huge_memory.c (folio_expected_ref_count: a reference for each mapping; any more are pins).
+"""
 
 from __future__ import annotations
 
@@ -6,21 +10,21 @@ import os
 import sys
 import time
 from collections import Counter
-from dataclasses import dataclass
-from typing import Any
+from dataclasses import dataclass, replace
+from typing import Any, Callable, Iterable
 
 from ..common.errors import Unavailable
 from ..common.files import BASE, PMD_ORDER, PTES_NONE, SWITCH, read
-from ..common.folios import Folio
+from ..common.folios import Folio, even_counts
 from ..common.groups import find_hierarchy
+from ..common.kernel_library import STATES, PageState
 from ..common.kernel_memory import KernelMemory
-from ..common.machine import namespace_note
+from ..common.machine import first_line, namespace_note
 from ..common.proc import group_names, machine_huge, name_of
 from ..common.reader import HIDDEN, MEMORY, Progress, Reader
 from ..common.second_look import Changes, SecondLook
 from ..common.text import escape
 from .processes import ProcessChoice, demand_reading
-from .queues import Queues, keep_lasting_pins
 from .snapshot import Snapshot, Sums
 
 
@@ -48,21 +52,15 @@ class SnapshotTaker:
         self.how = how
         self._progress = progress or (lambda what, done, of: None)
         self._kernel = KernelMemory()
-        self._queues: Queues | None = None
-        self.lacking = "not asked for"
-        if how.with_kernel:
-            try:
-                self._queues, self.lacking = Queues(self._kernel), ""
-            except Unavailable as error:
-                self.lacking = escape(str(error).partition("\n")[0])
+        self._groups: dict[int, int] = {}  # addresses of control groups by their inodes, of pages that were looked at
+        self.lacking = why_not(lambda: self._kernel.page_states([])) if how.with_kernel else "not asked for"
+        self._is_ordered = not self.lacking and not why_not(self._kernel.locate_queues)  # else a page has that it is in a queue
 
     def take(self, choice: ProcessChoice) -> Snapshot:
         """Looks once. What can't be read is counted; a process that ends meanwhile isn't."""
         began = time.monotonic()
         choice.check()
         reader = Reader(self._kernel, self.how.with_small, self.how.threads, self._progress, self.how.memory, self._look)
-        places: dict[int, int] = {}
-        notes: list[str] = []
         try:
             reader.read_processes(choice.find(reader.unread))
             for process in sorted(reader.denied):
@@ -71,8 +69,7 @@ class SnapshotTaker:
             changes = SecondLook(reader).take()
             with reader.timed("queues"):
                 keep_lasting_pins(reader.folios.values(), self._look)
-                if self._queues:
-                    places, notes = self._queues.places(reader.folios.values())
+                places, notes = self._places(reader.folios.values())
             machine = machine_huge() if choice.everything and not namespace_note() else None
         finally:
             reader.close()
@@ -87,8 +84,30 @@ class SnapshotTaker:
         return snapshot
 
     def _look(self, folios: list[Folio]) -> list[Folio]:
-        """Reads what the kernel's own structures contain of pages; returns those that are no longer in use."""
-        return self._queues.look(folios) if self._queues else []
+        """Fills in what the kernel's structures contain of pages; returns those that are no longer in use."""
+        gone: list[Folio] = []
+        for first in range(0, 0 if self.lacking else len(folios), STATES):
+            some = folios[first : first + STATES]
+            for folio, state in zip(some, self._kernel.page_states([folio.frame for folio in some])):
+                if state.group:
+                    self._groups[folio.cgroup] = state.group
+                if not fill(folio, state):
+                    gone.append(folio)
+        return gone
+
+    def _places(self, folios: Iterable[Folio]) -> tuple[dict[int, int], list[str]]:
+        """Returns the place in its queue of each page, by frame, and a note where places aren't known: they change no row, only
+        which pages come first."""
+        wanted = {folio.frame for folio in folios}
+        out: dict[int, int] = {}
+        notes: list[str] = []
+        for group in {self._groups.get(folio.cgroup, 0) for folio in folios} - {0} if self._is_ordered else ():
+            try:
+                frames = [self._kernel.frame(folio) for queue in self._kernel.queues(group) for folio in queue.folios]
+                out.update({frame: place for place, frame in enumerate(frames) if frame in wanted})
+            except Unavailable as error:
+                notes = [f"the order of pages isn't known in each queue: {error}"]
+        return out, notes
 
     def _gather(self, reader: Reader, changes: Changes) -> Snapshot:
         folios = [reader.folios[frame] for frame in sorted(reader.folios)]
@@ -117,6 +136,15 @@ class SnapshotTaker:
         )
 
 
+def why_not(attempt: Callable[[], object]) -> str:
+    """Returns why something isn't available here, in a line, or nothing."""
+    try:
+        attempt()
+    except Unavailable as error:
+        return escape(first_line(error))
+    return ""
+
+
 def names_of_groups(wanted: set[int]) -> dict[int, str]:
     """Returns the names of memory control groups by the inodes of their folders; none where there is no hierarchy."""
     try:
@@ -128,3 +156,24 @@ def names_of_groups(wanted: set[int]) -> dict[int, str]:
 def show_progress(what: str, done: int, of: int) -> None:
     """Prints a line on a terminal, over the one before; see `Progress`."""
     print(f"\r{what}: {done} of {of}\033[K", end="\n" if done == of else "", file=sys.stderr, flush=True)
+
+
+def keep_lasting_pins(folios: Iterable[Folio], look: Callable[[list[Folio]], object]) -> None:
+    """Reads pinned pages again by `look`, and keeps the pins that are still there: DAMON and compaction hold a reference to a
+    page for a moment."""
+    pinned = [folio for folio in folios if folio.pins]
+    later = [replace(folio) for folio in pinned]
+    look(later)
+    for folio, again in zip(pinned, later):
+        folio.pins = min(folio.pins or 0, again.pins or 0)
+
+
+def fill(folio: Folio, state: PageState) -> bool:
+    """Fills in what a page's structure contains; returns whether the page is in use."""
+    folio.is_queued = bool(folio.order > 1 and state.is_linked)
+    folio.is_partly = bool(state.is_partly)
+    whole = folio.whole = max(0, state.entire + 1)
+    if state.large == state.entire:  # no mapping by PTEs: each subpage has the same count
+        folio.totals = even_counts(whole, folio.size)
+    folio.pins = state.references - (state.large + 1) - (folio.size if folio.is_swap_cached else 0)
+    return bool(not state.has_failed and state.references > 0)  # failed: memory was taken from the machine

@@ -6,7 +6,7 @@ import unittest
 from typing import List
 
 from ...common.folios import Folio
-from ..queues import keep_lasting_pins
+from ..look import keep_lasting_pins
 from .sample_folios import folio
 
 
