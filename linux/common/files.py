@@ -37,8 +37,7 @@ def read_bytes(path: PathText) -> bytes:
 
 
 def read(path: PathText) -> str:
-    """Returns the whole text of a file of the kernel; bytes that are no UTF-8 are kept (PEP 383), and no line end is
-    translated."""
+    """Returns the text of a file of the kernel; bytes that are no UTF-8 are kept (PEP 383), no line end is translated."""
     return read_bytes(path).decode("utf-8", "surrogateescape")
 
 
@@ -54,8 +53,7 @@ def named_faults(path: PathText, what: str) -> Iterator[None]:
 
 
 def open_input(path: PathText) -> BinaryIO:
-    """Opens a file that a user named, or standard input (`-`), for reading. InputFault where it can't be read, or is no regular
-    file."""
+    """Opens a regular file that a user named, or standard input (`-`). InputFault where it can't be read, or is none."""
     if str(path) == "-":
         return sys.stdin.buffer
     with named_faults(path, "can't be read"):
@@ -67,8 +65,7 @@ def open_input(path: PathText) -> BinaryIO:
 
 
 def read_input(path: PathText, most: int = MOST_INPUT) -> bytes:
-    """Returns all bytes of a file that a user named, or of standard input (`-`). InputFault where it can't be read, is
-    no regular file, or has more than `most` bytes."""
+    """Returns all bytes of such a file. InputFault where it can't be read, is none, or has more than `most` bytes."""
     file = open_input(path)
     try:
         with named_faults(path, "can't be read"):
@@ -129,8 +126,7 @@ class OwnFolder:
             raise InputFault(f"{escape(str(path))} isn't the caller's own folder, or others may write into it")
 
     def create(self, name: str) -> TextIO:
-        """Makes a file of this name, and replaces an existing one. InputFault where the name has a `/`, or no file can be
-        made."""
+        """Makes a file of this name, or replaces it. InputFault where that isn't possible, or the name has a `/`."""
         if "/" in name or name in ("", ".", ".."):
             raise InputFault(f"{escape(name)} is no name of a file")
         with named_faults(name, "can't be replaced"), suppress(FileNotFoundError):
@@ -167,9 +163,8 @@ def open_roots_folder(path: PathText, owner: int = 0) -> int:
 
 
 def replace_file(folder: int, name: str, text: str) -> None:
-    """Writes a text whole into a new file of mode 0644, which then gets this name in an open folder and replaces a file of
-    the name. The new file has no name before it is whole, so nothing is left of a writer that is killed. OSError where
-    that isn't possible."""
+    """Replaces a file of this name in an open folder by a text, with mode 0644. The new file has no name before it is whole, so
+    nothing is left of a writer that is killed. OSError where that isn't possible."""
     new = os.open(".", os.O_TMPFILE | os.O_WRONLY | os.O_CLOEXEC, 0o600, dir_fd=folder)
     with open(new, "w", encoding="ascii", newline="\n") as file:
         file.write(text)

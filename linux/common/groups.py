@@ -33,8 +33,7 @@ class Hierarchy:
 
 
 def find_hierarchy(mounts: str | None = None, own: str | None = None, controller: str = "memory") -> Hierarchy:
-    """Returns the hierarchy of a controller by /proc/mounts and /proc/self/cgroup (or texts in their form). Each group of
-    version 2 has a freezer."""
+    """Returns a controller's hierarchy by /proc/mounts and /proc/self/cgroup. Each group of version 2 has a freezer."""
     own = read("/proc/self/cgroup") if own is None else own
     found = hierarchies(mounts)
     for folder, kind, options in found:
@@ -51,8 +50,7 @@ def find_hierarchy(mounts: str | None = None, own: str | None = None, controller
 
 
 def checked_group(path: str) -> str:
-    """Returns the real path of a control group's folder. InputFault where the folder isn't one: its files could be anybody's,
-    and a link could lead anywhere."""
+    """Returns the real path of a control group's folder. InputFault where it isn't one: its files could be anybody's."""
     real = os.path.realpath(path) if "\0" not in path else ""
     for folder, _, _ in hierarchies():
         try:
@@ -102,8 +100,7 @@ class Groups:
         self._inodes[path] = os.stat(path).st_ino
 
     def add(self, name: str, is_freezable: bool = False) -> str:
-        """Returns the path of a new group below ours, from which nothing is swapped out. `is_freezable`: `freeze` can hold its
-        processes, if this machine has a freezer."""
+        """Returns the path of a new group below ours, which swaps nothing out. `is_freezable`: `freeze` may hold it."""
         path = f"{self.path}/{name}"
         self._make(path)
         if self.version == 1:

@@ -112,8 +112,7 @@ def selected_word(text: str) -> str:
 
 
 def settings_of(entries: list[Entry]) -> dict[str, list[str]]:
-    """Returns for each setting the text that it first had, and all that were set, the setting that was changed last first.
-    A setting that doesn't show its value has its text alone."""
+    """Returns the first text of each setting, and all that were set, if it shows its value; the one changed last first."""
     out: dict[str, list[str]] = {}
     for entry in entries:
         if "file" in entry:
@@ -123,8 +122,7 @@ def settings_of(entries: list[Entry]) -> dict[str, list[str]]:
 
 
 def restore(path: str, texts: list[str]) -> str:
-    """Gives a setting its first text back; returns what is wrong, or nothing. One that has none of these texts was changed by
-    somebody else, and is left as it is."""
+    """Gives a setting its first text back, unless somebody else changed it; returns what is wrong, or nothing."""
     former, now = texts[0], ""
     with suppress(OSError), open(path, "rb") as file:
         now = selected_word(file.read().decode("utf-8", "replace"))
@@ -164,8 +162,7 @@ def leave_groups() -> None:
 
 
 def folders_below(path: str) -> list[str]:
-    """Returns a folder of cgroupfs and all folders below it, each before those in it, however deep they are. A folder that
-    can't be read has none."""
+    """Returns a folder of cgroupfs and all folders below it, each before those in it. One that can't be read has none."""
     out = [path]
     for folder in out:
         with suppress(OSError), os.scandir(folder) as found:
@@ -183,8 +180,7 @@ def members(group: str) -> list[int]:
 
 
 def kill_members(group: str) -> bool:
-    """Kills the processes of a control group alone; returns whether it has any. A process is killed by a pidfd that was taken
-    before the group still had its number."""
+    """Kills the processes of a control group alone, by pidfds from before it still had them; returns whether it has any."""
     numbers = members(group)
     for first in range(0, len(numbers), AT_ONCE):
         pidfds = {}
@@ -201,8 +197,8 @@ def kill_members(group: str) -> bool:
 
 
 def kill_group(entry: Entry) -> bool:
-    """Kills the processes of a control group of ours and of those in it, by an open descriptor, so that no other folder can take
-    its place; returns whether there were any. Processes of a group that isn't known to be ours are left alone."""
+    """Kills the processes of a control group that is known to be ours, and of those in it, by an open descriptor: no other folder
+    can take its place. Returns whether there were any."""
     try:
         descriptor = os.open(str(entry["group"]), os.O_RDONLY | os.O_DIRECTORY | os.O_NOFOLLOW | os.O_CLOEXEC)
     except OSError:
@@ -230,8 +226,7 @@ def empty_groups(entries: list[Entry], until: float) -> bool:
 
 
 def remove_group(path: str, until: float) -> str:
-    """Removes a control group and those in it, which may take a moment after the last process has ended; returns what is
-    wrong. Only empty groups can be removed."""
+    """Removes an empty control group and those in it, once the last process has ended; returns what is wrong."""
     while True:
         try:
             for group in reversed(folders_below(path)):
@@ -246,8 +241,7 @@ def remove_group(path: str, until: float) -> str:
 
 
 def groups_of(entries: list[Entry]) -> list[Entry]:
-    """Returns the entry of each control group, with its inode if that is known; those in others first. Groups that have gone, or
-    whose name another one has, have none."""
+    """Returns the entry of each control group that is still there, with its inode if that is known; those in others first."""
     last = {str(entry["group"]): entry for entry in entries if "group" in entry}
     out = []
     for path, entry in sorted(last.items(), key=lambda item: -item[0].count("/")):

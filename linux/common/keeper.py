@@ -53,8 +53,7 @@ def open_folder(folder: str) -> None:
 
 
 def open_shared(kind: str) -> int:
-    """Opens the root folder of a file system that is mounted nowhere by it: the same one in every namespace of the machine.
-    OSError if the kernel has none."""
+    """Opens the root folder of a file system that all namespaces of the machine share. OSError if there is none."""
     library = ctypes.CDLL(None, use_errno=True)
 
     def call(*words: object) -> int:
@@ -136,8 +135,7 @@ def recover(name: str, folder: str = FOLDER) -> list[str]:
 
 
 def process_of(pidfd: int) -> int:
-    """Returns the number of the process that a pidfd refers to (proc(5), fdinfo, in the namespace of /proc). RunFailed
-    if the process has ended."""
+    """Returns the number of a pidfd's process (proc(5), fdinfo). RunFailed if the process has ended."""
     for line in lines(read_bytes(f"/proc/self/fdinfo/{pidfd}")):
         found = re.fullmatch(rb"Pid:\t([1-9][0-9]{0,9})", line)
         if found:

@@ -147,8 +147,7 @@ class KernelMemory:
         return self.first_page() + self.page_size() * frame
 
     def page_states(self, frames: Sequence[int]) -> list[PageState]:
-        """Returns what the kernel's structures of at most STATES huge pages contain; valid until the next call. Unavailable where a
-        field is missing (before Linux 6.12)."""
+        """Returns what the kernel's structures of at most STATES huge pages contain; valid until the next call."""
         self.first_page()
         states: ctypes.Array[PageState] = self._window.states
         for state, frame in zip(states, frames):
@@ -178,8 +177,7 @@ class KernelMemory:
         return int(self._library.thp_memory_program(self._programs, name.encode()))
 
     def _find_own_page(self) -> None:
-        """Finds the map of all memory and the struct page of frame 0, once: by a page of ours, which is found by our page tables and
-        its content, and by the file that it belongs to."""
+        """Finds the map of all memory and the struct page of frame 0, once, by a page of ours and the file that it belongs to."""
         if self._window.first_page:
             return
         descriptor = os.memfd_create("thpsplit", os.MFD_CLOEXEC)

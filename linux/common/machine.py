@@ -91,8 +91,7 @@ def counters() -> str:
 
 
 def frames() -> str:
-    """The kernel shows 0 instead of a frame's number to who lacks CAP_SYS_ADMIN (Documentation/admin-guide/mm/pagemap.rst). Tried
-    on a page of our own."""
+    """Tried on a page of our own: the kernel shows 0 as frame to who lacks CAP_SYS_ADMIN (mm/pagemap.rst)."""
     page = mmap.mmap(-1, BASE, flags=mmap.MAP_PRIVATE | mmap.MAP_ANONYMOUS)
     page[0] = 1
     frame = frames_at(os.getpid(), ctypes.addressof(ctypes.c_char.from_buffer(page)), 1)[0]

@@ -86,8 +86,7 @@ def missing_capabilities(*names: str) -> list[str]:
 
 
 def folders_below(path: str) -> Iterator[int]:
-    """Yields an open descriptor of a folder, and of each folder below it, however deep. One that ended has none. OSError where
-    one can't be read."""
+    """Yields a descriptor of a folder, and of each below it, however deep, that hasn't ended. OSError where one can't be read."""
     try:
         here = os.open(path, FOLDER)
     except FileNotFoundError:
@@ -124,8 +123,7 @@ def list_folders(folder: int) -> list[str]:
 
 
 def members(path: str) -> list[int]:
-    """Returns the processes of a control group and of those below it; 0 (a process of another namespace) isn't one. OSError
-    where a group can't be read."""
+    """Returns the processes of a control group and of those below it that this namespace has. OSError where one can't be read."""
     out: set[int] = set()
     for folder in folders_below(path):
         try:
@@ -138,8 +136,8 @@ def members(path: str) -> list[int]:
 
 
 def group_names(mount: str, wanted: Iterable[int]) -> dict[int, str]:
-    """Returns the names of control groups below a mount by the inodes of their folders, escaped. The kernel opens a folder of
-    cgroupfs by its inode (CAP_DAC_READ_SEARCH). Groups that ended, or can't be opened so, have no name."""
+    """Returns the names, escaped, of control groups below a mount by their inodes, by which the kernel opens folders of cgroupfs
+    (CAP_DAC_READ_SEARCH). Groups that ended, or can't be opened so, have no name."""
     library, out = ctypes.CDLL(None), {}
     top = os.open(mount, FOLDER)
     try:

@@ -103,8 +103,7 @@ class Reader:
         self.spent[step] += time.monotonic() - began
 
     def answers(self, todo: Deque[Request]) -> Iterator[tuple[Request, Answer]]:
-        """Yields requests with what workers have read. A process that can't be read is counted; one that has ended maps
-        nothing."""
+        """Yields requests with what workers have read. Processes that can't be read are counted; ended ones map nothing."""
         for request, answer in self._workers.ask(todo):
             error = error_of(answer)
             if not error:

@@ -168,8 +168,7 @@ class Workers:
         self._waited: Counter[int] = Counter()  # readings that weren't done in time, by user
 
     def ask(self, todo: Deque[Request]) -> Iterator[tuple[Request, Answer | None]]:
-        """Yields each request with its answer, or None where it wasn't done in time, in any order. What is appended to `todo`
-        meanwhile is done, too."""
+        """Yields each request, also those appended meanwhile, with its answer, in any order; None: it wasn't done in time."""
         while todo or self._busy:
             while todo and self._begin(todo[0]):
                 todo.popleft()

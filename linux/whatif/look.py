@@ -96,8 +96,7 @@ class SnapshotTaker:
         return gone
 
     def _places(self, folios: Iterable[Folio]) -> tuple[dict[int, int], list[str]]:
-        """Returns the place in its queue of each page, by frame, and a note where places aren't known: they change no row, only
-        which pages come first."""
+        """Returns pages' places in their queues, by frame, and a note where they aren't known: they change no row."""
         wanted = {folio.frame for folio in folios}
         out: dict[int, int] = {}
         notes: list[str] = []
@@ -159,8 +158,7 @@ def show_progress(what: str, done: int, of: int) -> None:
 
 
 def keep_lasting_pins(folios: Iterable[Folio], look: Callable[[list[Folio]], object]) -> None:
-    """Reads pinned pages again by `look`, and keeps the pins that are still there: DAMON and compaction hold a reference to a
-    page for a moment."""
+    """Keeps the pins that are still there in a second reading: DAMON and compaction hold a page for a moment."""
     pinned = [folio for folio in folios if folio.pins]
     later = [replace(folio) for folio in pinned]
     look(later)
