@@ -16,10 +16,8 @@
     folios          Folio: a huge page as it was read
     workers         Workers: processes that read what may wait for another process's mmap_lock
     spaces          Space: an address space, which processes share it, and by which thread it is read
-    contents        Contents: which subpages are zero-filled
-    reader          Reader: the huge pages that processes map, and how they map them
+    reader          Reader: the huge pages that processes map, how they map them, and which subpages are zero-filled
     second_look     SecondLook: reads again what has changed meanwhile
-    direct_map      content of page frames, read by the kernel's map of all memory
     counters        the statistics of /proc/vmstat and of each page size; CounterWatch: whether others move them
     numa            the frames of each NUMA node
     kernel_library  the library of BPF programs (linux/kernel), and why it can't be loaded

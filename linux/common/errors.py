@@ -30,8 +30,7 @@ class Busy(Exception):
 
 
 def end_by_signals() -> None:
-    """Makes SIGTERM and SIGHUP end the tool as an exception does, so that everything is put back on the way. One that the
-    caller ignores (nohup) stays ignored."""
+    """Has SIGTERM and SIGHUP end the tool as an exception does; one that the caller ignores (nohup) stays ignored."""
 
     def stop(number: int, _frame: object) -> NoReturn:
         raise SystemExit(128 + number)

@@ -3,16 +3,16 @@ pages."""
 
 from __future__ import annotations
 
-import errno
 import os
-import re
 import stat
 import sys
-from contextlib import suppress
+from collections.abc import Iterator
+from contextlib import contextmanager, suppress
 from pathlib import Path
 from typing import BinaryIO, TextIO, Union
 
 from .errors import InputFault
+from .guardian import selected_word as selected_word, write as write  # noqa: F401
 from .text import escape
 
 PathText = Union[str, Path]
@@ -37,30 +37,27 @@ def read_bytes(path: PathText) -> bytes:
 
 
 def read(path: PathText) -> str:
-    """Returns the whole text of a file of the kernel; bytes that are no UTF-8 are kept (PEP 383), and no line end is
-    translated."""
+    """Returns the text of a file of the kernel; bytes that are no UTF-8 are kept (PEP 383), no line end is translated."""
     return read_bytes(path).decode("utf-8", "surrogateescape")
 
 
-def write(path: PathText, text: object) -> None:
-    """Writes a text into a file that exists, by one write, as sysfs and cgroupfs need it."""
-    descriptor = os.open(path, os.O_WRONLY | os.O_TRUNC | os.O_CLOEXEC)
+@contextmanager
+def named_faults(path: PathText, what: str) -> Iterator[None]:
+    """Has an error of the kernel, or a text that is no path, be an InputFault: `PATH WHAT: the reason`."""
     try:
-        os.write(descriptor, str(text).encode())
-    finally:
-        os.close(descriptor)
+        yield
+    except FileExistsError as error:
+        raise InputFault(f"{escape(str(path))} exists already") from error
+    except (OSError, ValueError) as error:
+        raise InputFault(f"{escape(str(path))} {what}: {getattr(error, 'strerror', None) or error}") from error
 
 
 def open_input(path: PathText) -> BinaryIO:
-    """Opens a file that a user named, or standard input (`-`), for reading. InputFault where it can't be read, or is no regular
-    file."""
+    """Opens a regular file that a user named, or standard input (`-`). InputFault where it can't be read, or is none."""
     if str(path) == "-":
         return sys.stdin.buffer
-    try:
+    with named_faults(path, "can't be read"):
         descriptor = os.open(path, os.O_RDONLY | os.O_NONBLOCK | os.O_NOCTTY | os.O_CLOEXEC)
-    except (OSError, ValueError) as error:
-        reason = getattr(error, "strerror", None) or str(error)
-        raise InputFault(f"{escape(str(path))} can't be read: {reason}") from error
     if not stat.S_ISREG(os.fstat(descriptor).st_mode):
         os.close(descriptor)
         raise InputFault(f"{escape(str(path))} is no regular file")
@@ -68,13 +65,11 @@ def open_input(path: PathText) -> BinaryIO:
 
 
 def read_input(path: PathText, most: int = MOST_INPUT) -> bytes:
-    """Returns all bytes of a file that a user named, or of standard input (`-`). InputFault where it can't be read, is
-    no regular file, or has more than `most` bytes."""
+    """Returns all bytes of such a file. InputFault where it can't be read, is none, or has more than `most` bytes."""
     file = open_input(path)
     try:
-        data = file.read(most + 1)
-    except OSError as error:
-        raise InputFault(f"{escape(str(path))} can't be read: {error.strerror}") from error
+        with named_faults(path, "can't be read"):
+            data = file.read(most + 1)
     finally:
         if file is not sys.stdin.buffer:
             file.close()
@@ -83,38 +78,19 @@ def read_input(path: PathText, most: int = MOST_INPUT) -> bytes:
     return data
 
 
-def create(path: PathText) -> TextIO:
-    """Makes a new file, readable by its owner alone, and opens it. InputFault where a file, link or anything else of
-    this name exists, or none can be made."""
-    return _created(path, None)
-
-
-def _created(path: PathText, folder: Union[int, None], shown: Union[PathText, None] = None) -> TextIO:
-    name = escape(str(shown or path))
-    try:
-        return open(os.open(path, _NEW, 0o600, dir_fd=folder), "w", encoding="utf-8", newline="\n")
-    except FileExistsError as error:
-        raise InputFault(f"{name} exists already") from error
-    except (OSError, ValueError) as error:
-        reason = getattr(error, "strerror", None) or str(error)
-        raise InputFault(f"{name} can't be made: {reason}") from error
-
-
 class NewFile:
-    """A new file, as `create` makes it. Its folder stays open, so that the file can be removed wherever its path leads by then."""
+    """A new file, readable by its owner alone. Its folder stays open, so that the file can be removed wherever its path leads by
+    then. InputFault where a file, link or anything else of this name exists, or none can be made."""
 
     def __init__(self, path: PathText) -> None:
         folder, self._name = os.path.split(str(path))
-        try:
+        with named_faults(path, "can't be made"):
             self._folder = os.open(folder or ".", os.O_PATH | os.O_DIRECTORY | os.O_CLOEXEC)
-        except (OSError, ValueError) as error:
-            reason = getattr(error, "strerror", None) or str(error)
-            raise InputFault(f"{escape(str(path))} can't be made: {reason}") from error
-        try:
-            self.file = _created(self._name, self._folder, path)
-        except BaseException:
-            os.close(self._folder)
-            raise
+            try:
+                self.file = create(self._name, self._folder)
+            except BaseException:
+                os.close(self._folder)
+                raise
 
     def remove(self) -> None:
         """Removes the file, unless something else has its name."""
@@ -130,52 +106,65 @@ class NewFile:
         self.file.close()
 
 
-def own_folder(path: PathText) -> int:
-    """Opens a folder, which is made with mode 0700 where it is missing, and returns its descriptor. InputFault where it
-    isn't the caller's own, or others may write into it."""
-    try:
-        try:
-            os.mkdir(path, 0o700)
-        except FileExistsError:
-            pass
-        descriptor = os.open(path, os.O_RDONLY | os.O_DIRECTORY | os.O_NOFOLLOW | os.O_CLOEXEC)
-    except (OSError, ValueError) as error:
-        reason = getattr(error, "strerror", None) or str(error)
-        raise InputFault(f"{escape(str(path))} can't be used as a folder: {reason}") from error
-    found = os.fstat(descriptor)
-    if found.st_uid != os.geteuid() or found.st_mode & 0o022:
-        os.close(descriptor)
-        raise InputFault(f"{escape(str(path))} isn't the caller's own folder, or others may write into it")
-    return descriptor
+def create(name: str, folder: int) -> TextIO:
+    """Makes a new file, readable by its owner alone, in an open folder, and opens it."""
+    return open(os.open(name, _NEW, 0o600, dir_fd=folder), "w", encoding="utf-8", newline="\n")
+
+
+class OwnFolder:
+    """A folder for a tool's outputs, which is made with mode 0700 where it is missing. InputFault where it isn't the caller's
+    own, or others may write into it."""
+
+    def __init__(self, path: PathText) -> None:
+        with named_faults(path, "can't be used as a folder"):
+            with suppress(FileExistsError):
+                os.mkdir(path, 0o700)
+            self._descriptor = os.open(path, os.O_RDONLY | os.O_DIRECTORY | os.O_NOFOLLOW | os.O_CLOEXEC)
+        found = os.fstat(self._descriptor)
+        if found.st_uid != os.geteuid() or found.st_mode & 0o022:
+            self.close()
+            raise InputFault(f"{escape(str(path))} isn't the caller's own folder, or others may write into it")
+
+    def create(self, name: str) -> TextIO:
+        """Makes a file of this name, or replaces it. InputFault where that isn't possible, or the name has a `/`."""
+        if "/" in name or name in ("", ".", ".."):
+            raise InputFault(f"{escape(name)} is no name of a file")
+        with named_faults(name, "can't be replaced"), suppress(FileNotFoundError):
+            os.unlink(name, dir_fd=self._descriptor)
+        with named_faults(name, "can't be made"):
+            return create(name, self._descriptor)
+
+    def close(self) -> None:
+        """Closes the folder."""
+        os.close(self._descriptor)
 
 
 def open_roots_folder(path: PathText, owner: int = 0) -> int:
     """Opens a folder that is root's (`owner`), into which nobody else may write, and returns its descriptor. No symbolic
     link is followed on the way, so that nobody redirects the path. InputFault where the folder isn't so."""
-    name, descriptor = "/", os.open("/", _SEARCHED)
+    descriptor = os.open("/", _SEARCHED)
     try:
         for name in Path(os.path.abspath(path)).parts[1:]:
-            below = os.open(name, _SEARCHED, dir_fd=descriptor)
+            with named_faults(path, "can't be used as a folder"):
+                try:
+                    below = os.open(name, _SEARCHED, dir_fd=descriptor)
+                except NotADirectoryError as error:
+                    reason = f"{escape(name)} is no folder, or a symbolic link"
+                    raise InputFault(f"{escape(str(path))} can't be used: {reason}") from error
             os.close(descriptor)
             descriptor = below
         found = os.fstat(descriptor)
         if found.st_uid != owner or found.st_mode & 0o022:
             raise InputFault(f"{escape(str(path))} isn't root's folder, or others may write into it")
-    except BaseException as error:
+    except BaseException:
         os.close(descriptor)
-        if isinstance(error, OSError) and error.errno in (errno.ENOTDIR, errno.ELOOP):
-            raise InputFault(f"{escape(str(path))} can't be used: {escape(name)} is no folder, or a symbolic link") from error
-        if isinstance(error, (OSError, ValueError)):
-            reason = getattr(error, "strerror", None) or str(error)
-            raise InputFault(f"{escape(str(path))} can't be used as a folder: {reason}") from error
         raise
     return descriptor
 
 
 def replace_file(folder: int, name: str, text: str) -> None:
-    """Writes a text whole into a new file of mode 0644, which then gets this name in an open folder and replaces a file of
-    the name. The new file has no name before it is whole, so nothing is left of a writer that is killed. OSError where
-    that isn't possible."""
+    """Replaces a file of this name in an open folder by a text, with mode 0644. The new file has no name before it is whole, so
+    nothing is left of a writer that is killed. OSError where that isn't possible."""
     new = os.open(".", os.O_TMPFILE | os.O_WRONLY | os.O_CLOEXEC, 0o600, dir_fd=folder)
     with open(new, "w", encoding="ascii", newline="\n") as file:
         file.write(text)
@@ -191,36 +180,6 @@ def replace_file(folder: int, name: str, text: str) -> None:
             with suppress(FileNotFoundError):
                 os.unlink(whole, dir_fd=folder)
             raise
-
-
-class OwnFolder:
-    """A folder for a tool's outputs: the caller's own, in which nobody else can make files."""
-
-    def __init__(self, path: PathText) -> None:
-        self._descriptor = own_folder(path)
-
-    def create(self, name: str) -> TextIO:
-        """Makes a file of this name, and replaces an existing one. InputFault where the name has a `/`, or no file can be
-        made."""
-        if "/" in name or name in ("", ".", ".."):
-            raise InputFault(f"{escape(name)} is no name of a file")
-        try:
-            os.unlink(name, dir_fd=self._descriptor)
-        except FileNotFoundError:
-            pass
-        except OSError as error:
-            raise InputFault(f"{escape(name)} can't be replaced: {error.strerror}") from error
-        return _created(name, self._descriptor)
-
-    def close(self) -> None:
-        """Closes the folder."""
-        os.close(self._descriptor)
-
-
-def selected_word(text: str) -> str:
-    """Returns the value that a sysfs file holds: the word in brackets, or all of it."""
-    marked = re.search(r"\[(.*?)\]", text)
-    return marked[1] if marked else text.strip()
 
 
 def size_folder(order: int) -> str:

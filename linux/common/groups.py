@@ -9,13 +9,13 @@ from __future__ import annotations
 import os
 import re
 import time
-from collections.abc import Callable, Iterator
+from collections.abc import Iterator
 from contextlib import contextmanager, suppress
 from dataclasses import dataclass
 
 from .errors import InputFault, Unavailable
 from .files import BASE, read, write
-from .guardian import empty_groups, hierarchies
+from .guardian import empty_groups, hierarchies, remove_group
 from .keeper import Keeper
 from .text import escape, text_lines
 
@@ -33,28 +33,24 @@ class Hierarchy:
 
 
 def find_hierarchy(mounts: str | None = None, own: str | None = None, controller: str = "memory") -> Hierarchy:
-    """Returns the hierarchy of a controller by /proc/mounts and /proc/self/cgroup (or texts in their form). Each group of
-    version 2 has a freezer."""
-    mounts = read("/proc/mounts") if mounts is None else mounts
+    """Returns a controller's hierarchy by /proc/mounts and /proc/self/cgroup. Each group of version 2 has a freezer."""
     own = read("/proc/self/cgroup") if own is None else own
-    lines = [words for words in (line.split(" ") for line in text_lines(mounts)) if len(words) > 3]
-    for words in lines:
-        if words[2] == "cgroup" and controller in words[3].split(","):
+    found = hierarchies(mounts)
+    for folder, kind, options in found:
+        if kind == "cgroup" and controller in options.split(","):
             place = re.search(rf"^\d+:(?:[^:]*,)?{controller}(?:,[^:]*)?:(.*)$", own, re.MULTILINE)
-            top = words[1] + (place[1] if place else "")
-            return Hierarchy(1, words[1], (top if os.path.isdir(top) else words[1]).rstrip("/"))
-    for words in lines:
-        if words[2] == "cgroup2":
-            path = f"{words[1]}/cgroup.controllers"
-            if controller == "freezer" or (os.path.exists(path) and controller in read(path).split()):
-                return Hierarchy(2, words[1], words[1].rstrip("/"))
-            raise Unavailable(f"no {controller} control groups: {words[1]} has no {controller} controller")
+            top = folder + (place[1] if place else "")
+            return Hierarchy(1, folder, (top if os.path.isdir(top) else folder).rstrip("/"))
+    for folder in [folder for folder, kind, _ in found if kind == "cgroup2"]:
+        path = f"{folder}/cgroup.controllers"
+        if controller == "freezer" or (os.path.exists(path) and controller in read(path).split()):
+            return Hierarchy(2, folder, folder.rstrip("/"))
+        raise Unavailable(f"no {controller} control groups: {folder} has no {controller} controller")
     raise Unavailable(f"no {controller} control groups: no hierarchy is mounted")
 
 
 def checked_group(path: str) -> str:
-    """Returns the real path of a control group's folder. InputFault where the folder isn't one: its files could be anybody's,
-    and a link could lead anywhere."""
+    """Returns the real path of a control group's folder. InputFault where it isn't one: its files could be anybody's."""
     real = os.path.realpath(path) if "\0" not in path else ""
     for folder, _, _ in hierarchies():
         try:
@@ -73,31 +69,13 @@ class Freeze:
     problem: str = ""
 
 
-def freezer_of(group: str) -> tuple[str, str, str]:
-    """Returns the file that freezes a control group, of version 2 or 1, and the words that freeze and thaw it."""
-    if os.path.exists(f"{group}/freezer.state"):
-        return f"{group}/freezer.state", "FROZEN", "THAWED"
-    return f"{group}/cgroup.freeze", "1", "0"
-
-
 def is_frozen(group: str) -> bool:
-    """Returns whether all tasks of a control group are frozen, by cgroup.events or freezer.state."""
-    try:
-        if os.path.exists(f"{group}/freezer.state"):
-            return read(f"{group}/freezer.state").strip() == "FROZEN"
-        return "frozen 1" in text_lines(read(f"{group}/cgroup.events"))
-    except OSError:
-        return False
-
-
-def wait_until(is_so: Callable[[], bool], seconds: float) -> bool:
-    """Waits at most so many seconds until something is so; returns whether it is."""
-    until = time.monotonic() + seconds
-    while not is_so():
-        if time.monotonic() > until:
-            return False
-        time.sleep(0.002)
-    return True
+    """Returns whether all tasks of a control group are frozen."""
+    for name, word in (("freezer.state", "FROZEN"), ("cgroup.events", "frozen 1")):  # of version 1, and 2
+        with suppress(OSError):
+            if word in text_lines(read(f"{group}/{name}")):
+                return True
+    return False
 
 
 class Groups:
@@ -109,25 +87,20 @@ class Groups:
         self._keeper, self._name = keeper, f"{name}-{os.getpid()}-{os.urandom(4).hex()}"
         self._freezers: dict[str, str] = {}  # by group: the group that freezes its processes
         self._inodes: dict[str, int] = {}
-        if self.version == 2:
-            self._give_memory(self.hierarchy.top)
+        control = f"{self.hierarchy.top}/cgroup.subtree_control"
+        if self.version == 2 and "memory" not in read(control).split():
+            keeper.set(control, "+memory", undo="-memory")
         self.path = f"{self.hierarchy.top}/{self._name}"
         self._make(self.path)
         if self.version == 2:
             write(f"{self.path}/cgroup.subtree_control", "+memory")
-
-    def _give_memory(self, path: str) -> None:
-        control = f"{path}/cgroup.subtree_control"
-        if "memory" not in read(control).split():
-            self._keeper.set(control, "+memory", undo="-memory")
 
     def _make(self, path: str) -> None:
         self._keeper.make_group(path)
         self._inodes[path] = os.stat(path).st_ino
 
     def add(self, name: str, is_freezable: bool = False) -> str:
-        """Returns the path of a new group below ours, from which nothing is swapped out. `is_freezable`: `freeze` can hold its
-        processes, if this machine has a freezer."""
+        """Returns the path of a new group below ours, which swaps nothing out. `is_freezable`: `freeze` may hold it."""
         path = f"{self.path}/{name}"
         self._make(path)
         if self.version == 1:
@@ -150,15 +123,19 @@ class Groups:
     @contextmanager
     def freeze(self, path: str) -> Iterator[Freeze]:
         """Holds the processes of a group still until the end of the `with`."""
-        file, frozen, thawed = freezer_of(self._freezers[path])
-        group, out = os.path.dirname(file), Freeze()
+        group, out, until = self._freezers[path], Freeze(), time.monotonic() + FREEZE_TIME
+        file, frozen, thawed = f"{group}/cgroup.freeze", "1", "0"
+        if os.path.exists(f"{group}/freezer.state"):  # version 1
+            file, frozen, thawed = f"{group}/freezer.state", "FROZEN", "THAWED"
         try:
             try:
                 write(file, frozen)
             except OSError as error:
                 out.problem = f"there is no freezer ({error.strerror})"
-            if not out.problem and not wait_until(lambda: is_frozen(group), FREEZE_TIME):
-                out.problem = f"the processes didn't freeze within {FREEZE_TIME:g} s"
+            while not out.problem and not is_frozen(group):
+                time.sleep(0.002)
+                if time.monotonic() > until:
+                    out.problem = f"the processes didn't freeze within {FREEZE_TIME:g} s"
             yield out
             if not out.problem and not is_frozen(group):
                 out.problem = "somebody else thawed the processes"
@@ -173,14 +150,8 @@ class Groups:
 
     def remove(self, path: str) -> None:
         """Removes an empty group. What can't be removed yet goes at the tool's end."""
-
-        def is_gone(group: str) -> bool:
-            with suppress(OSError):
-                os.rmdir(group)
-            return not os.path.exists(group)
-
         for group in dict.fromkeys((path, self._freezers.pop(path, path))):
-            wait_until(lambda: is_gone(group), END_TIME)
+            remove_group(group, time.monotonic() + END_TIME)
 
     def reclaim(self, path: str) -> None:
         """Has the kernel reclaim in a group, so that the shrinkers run over its lists.
@@ -196,7 +167,3 @@ class Groups:
                 write(f"{path}/memory.reclaim", "1G")
         except OSError:
             pass  # less could be reclaimed than was asked for: the sweep took place
-
-    def usage(self, path: str) -> int:
-        """Returns the bytes charged to a group."""
-        return int(read(f"{path}/memory.{'usage_in_bytes' if self.version == 1 else 'current'}"))

@@ -1,24 +1,20 @@
 """The guardian of a run: puts the machine back when the tool ends, however it ends.
 
-It knows three things: settings, control groups that it made itself, and processes that the tool started. The tool starts
-this file as a process of its own session, with a socket (SOCK_SEQPACKET) as standard input; `ok` comes back once guardian
-and standby run. Each packet is an order, one JSON object, which the guardian answers by `ok` or by what is wrong:
+The tool starts this file as a process of its own session, with a socket (SOCK_SEQPACKET) as standard input; `ok` comes back
+once guardian and standby run. Each packet is an order, a JSON object, which is answered by `ok` or by what is wrong:
 
     {"file": PATH, "text": TEXT, "set": TEXT}   at the end, write the first TEXT into PATH; the tool writes the second one now
     {"group": PATH}                             make this control group; at the end, kill the processes in it, and remove it
                                                 with all groups in it
-    {"keep": NUMBER}                            at the end, kill the process whose pidfd comes with this order
-    {"forget": NUMBER}                          the process of that order has ended
+    {"keep": true}                              at the end, kill the process whose pidfd comes with this order
 
 Settings and groups are first written to the file `undo` of the tools' folder and synced, whole or not at all: an order that
-can't be stored is refused, and changes nothing. So whoever comes later can put back what was changed: a second process of
-this file (the standby), which takes over if the guardian is killed, and the next start of a tool, if all three are killed.
-The guardian and its standby leave the tool's control groups, so that what ends or freezes a group reaches neither.
+can't be stored is refused. So a second process of this file (the standby) puts everything back if the guardian is killed, and
+the next start of a tool if all three are. Both leave the tool's control groups: what ends or freezes a group reaches neither.
 
-The end is the end of the socket: it comes also if the tool is killed. The tool's lock is inherited, so no other tool
-begins before all is put back. What could not be put back is reported on standard error, the status is then 1, and the next
-start of a tool tries again. Nothing of the package is imported, so that an error in the package can't keep the guardian
-from its work.
+The end is the end of the socket: it comes also if the tool is killed. The tool's lock is inherited, so no other tool begins
+before all is put back. What could not be put back is reported on standard error, with status 1, and tried again by the next
+start of a tool. Nothing of the package is imported, so that no error in it can keep the guardian from its work.
 """
 
 from __future__ import annotations
@@ -32,8 +28,7 @@ import signal
 import socket
 import sys
 import time
-from collections.abc import Iterator
-from contextlib import contextmanager, suppress
+from contextlib import suppress
 from typing import Any, Dict
 
 PATIENCE = 10.0  # seconds that processes get to end, and control groups to become empty
@@ -57,23 +52,20 @@ def read_entries(path: str) -> tuple[list[Entry], list[str]]:
         return [], []
     except OSError as error:
         return [], [f"{path} can't be read: {error.strerror}"]
-    out: list[Entry] = []
-    problems = []
+    out, problems = [], []
     for number, line in enumerate(lines, 1):
-        try:
-            entry = json.loads(line) if line else None
-        except (ValueError, RecursionError):
-            entry = ()
-        if isinstance(entry, dict):
-            out.append(entry)
-        elif line:
+        entry: object = None
+        with suppress(ValueError, RecursionError):
+            entry = json.loads(line or b"{}")
+        if not isinstance(entry, dict):
             problems.append(f"line {number} of {path} can't be read: what it was to put back isn't known")
+        elif entry:
+            out.append(entry)
     return out, problems
 
 
 def add_entry(path: str, entry: Entry) -> None:
-    """Adds an entry to a file of orders and waits until it is stored. OSError if not all of it can be; the file is then as it
-    was."""
+    """Adds an entry to a file of orders, and syncs it. OSError if not all of it can be stored; the file is then as it was."""
     data = json.dumps(entry).encode() + b"\n"
     descriptor = os.open(path, os.O_WRONLY | os.O_CREAT | os.O_APPEND | os.O_NOFOLLOW | os.O_CLOEXEC, 0o600)
     try:
@@ -104,33 +96,23 @@ def replace_entries(path: str, entries: list[Entry]) -> None:
 # settings
 
 
-def write(path: str, text: str) -> str:
-    """Writes a text into a file that exists, by one write; returns what is wrong, or nothing."""
+def write(path: str | os.PathLike[str], text: object) -> None:
+    """Writes a text into a file that exists, by one write, as sysfs and cgroupfs need it."""
+    descriptor = os.open(path, os.O_WRONLY | os.O_TRUNC | os.O_CLOEXEC)
     try:
-        descriptor = os.open(path, os.O_WRONLY | os.O_TRUNC | os.O_CLOEXEC)
-        try:
-            os.write(descriptor, text.encode())
-        finally:
-            os.close(descriptor)
-    except OSError as error:
-        return error.strerror or type(error).__name__
-    return ""
+        os.write(descriptor, str(text).encode())
+    finally:
+        os.close(descriptor)
 
 
-def value_of(path: str) -> str:
-    """Returns the value that a setting has: the word in brackets, or all of it."""
-    try:
-        with open(path, "rb") as file:
-            text = file.read().decode("utf-8", "replace")
-    except OSError:
-        return ""
+def selected_word(text: str) -> str:
+    """Returns the value that a sysfs file holds: the word in brackets, or all of it."""
     marked = re.search(r"\[(.*?)\]", text)
     return marked[1] if marked else text.strip()
 
 
 def settings_of(entries: list[Entry]) -> dict[str, list[str]]:
-    """Returns for each setting the text that it first had, and all that were set, the setting that was changed last first.
-    A setting that doesn't show its value has its text alone."""
+    """Returns the first text of each setting, and all that were set, if it shows its value; the one changed last first."""
     out: dict[str, list[str]] = {}
     for entry in entries:
         if "file" in entry:
@@ -140,31 +122,34 @@ def settings_of(entries: list[Entry]) -> dict[str, list[str]]:
 
 
 def restore(path: str, texts: list[str]) -> str:
-    """Gives a setting its first text back; returns what is wrong, or nothing. One that has none of these texts was changed by
-    somebody else, and is left as it is."""
-    former = texts[0]
-    if len(texts) > 1:
-        now = value_of(path)
-        if now == former:
-            return ""
-        if now and now not in texts:
-            return f"{path} has been changed since to {now!r}: left as it is (it was {former!r} before)"
-    problem = write(path, former)
-    return f"{path} could not be put back to {former!r}: {problem}" if problem and os.path.exists(path) else ""
+    """Gives a setting its first text back, unless somebody else changed it; returns what is wrong, or nothing."""
+    former, now = texts[0], ""
+    with suppress(OSError), open(path, "rb") as file:
+        now = selected_word(file.read().decode("utf-8", "replace"))
+    if len(texts) > 1 and now == former:
+        return ""
+    if len(texts) > 1 and now and now not in texts:
+        return f"{path} has been changed since to {now!r}: left as it is (it was {former!r} before)"
+    try:
+        write(path, former)
+    except OSError as error:
+        return f"{path} could not be put back to {former!r}: {error.strerror}" if os.path.exists(path) else ""
+    return ""
 
 
 # control groups
 
 
-def hierarchies() -> list[tuple[str, str, str]]:
-    """Returns the mounted control group hierarchies as (folder, type, options)."""
+def hierarchies(mounts: str | None = None) -> list[tuple[str, str, str]]:
+    """Returns the mounted control group hierarchies as (folder, type, options), by /proc/mounts or a text of its form."""
+    if mounts is None:
+        with open("/proc/self/mounts", "rb") as file:
+            mounts = file.read().decode("utf-8", "surrogateescape")
     out = []
-    with open("/proc/self/mounts", "rb") as file:
-        for line in file.read().split(b"\n"):
-            words = line.decode("utf-8", "surrogateescape").split(" ")
-            if len(words) > 3 and words[2] in ("cgroup", "cgroup2"):
-                folder = re.sub(r"\\([0-7]{3})", lambda found: chr(int(found[1], 8)), words[1])
-                out.append((folder, words[2], words[3]))
+    for words in (line.split(" ") for line in mounts.split("\n")):
+        if len(words) > 3 and words[2] in ("cgroup", "cgroup2"):
+            folder = re.sub(r"\\([0-7]{3})", lambda found: chr(int(found[1], 8)), words[1])
+            out.append((folder, words[2], words[3]))
     return out
 
 
@@ -172,12 +157,12 @@ def leave_groups() -> None:
     """Moves this process to the top of the hierarchies by which processes are ended or frozen, if that is allowed."""
     for folder, kind, options in hierarchies():
         if kind == "cgroup2" or set(HIERARCHIES) & set(options.split(",")):
-            write(f"{folder}/cgroup.procs", str(os.getpid()))
+            with suppress(OSError):
+                write(f"{folder}/cgroup.procs", os.getpid())
 
 
 def folders_below(path: str) -> list[str]:
-    """Returns a folder of cgroupfs and all folders below it, each before those in it, however deep they are. A folder that
-    can't be read has none."""
+    """Returns a folder of cgroupfs and all folders below it, each before those in it. One that can't be read has none."""
     out = [path]
     for folder in out:
         with suppress(OSError), os.scandir(folder) as found:
@@ -195,52 +180,40 @@ def members(group: str) -> list[int]:
 
 
 def kill_members(group: str) -> bool:
-    """Kills the processes of a control group alone; returns whether it has any. A process is killed by a pidfd that was taken
-    before the group still had its number."""
+    """Kills the processes of a control group alone, by pidfds from before it still had them; returns whether it has any."""
     numbers = members(group)
     for first in range(0, len(numbers), AT_ONCE):
         pidfds = {}
-        try:
-            for number in numbers[first : first + AT_ONCE]:
-                with suppress(OSError):
-                    pidfds[number] = os.pidfd_open(number)
-            for number in pidfds.keys() & set(members(group)):
-                with suppress(OSError):
-                    signal.pidfd_send_signal(pidfds[number], signal.SIGKILL)
-        finally:
-            for descriptor in pidfds.values():
-                os.close(descriptor)
+        for number in numbers[first : first + AT_ONCE]:
+            with suppress(OSError):
+                pidfds[number] = os.pidfd_open(number)
+        still = members(group)
+        for number, pidfd in pidfds.items():
+            with suppress(OSError):
+                if number in still:
+                    signal.pidfd_send_signal(pidfd, signal.SIGKILL)
+            os.close(pidfd)
     return bool(numbers)
 
 
-@contextmanager
-def opened(entry: Entry) -> Iterator[str]:
-    """Gives the path of the control group of an entry by an open descriptor, so that no other folder can take its place;
-    nothing if it isn't the one that was made, or isn't known to be."""
-    descriptor = -1
-    try:
-        with suppress(OSError):
-            descriptor = os.open(str(entry["group"]), os.O_RDONLY | os.O_DIRECTORY | os.O_NOFOLLOW | os.O_CLOEXEC)
-        is_ours = descriptor >= 0 and os.fstat(descriptor).st_ino == entry.get("inode", 0)
-        yield f"/proc/self/fd/{descriptor}" if is_ours else ""
-    finally:
-        if descriptor >= 0:
-            os.close(descriptor)
-
-
 def kill_group(entry: Entry) -> bool:
-    """Kills the processes of a control group of ours and of those in it; returns whether there were any. Processes of a group
-    that isn't known to be ours are left alone."""
-    with opened(entry) as path:
-        if not path:
+    """Kills the processes of a control group that is known to be ours, and of those in it, by an open descriptor: no other folder
+    can take its place. Returns whether there were any."""
+    try:
+        descriptor = os.open(str(entry["group"]), os.O_RDONLY | os.O_DIRECTORY | os.O_NOFOLLOW | os.O_CLOEXEC)
+    except OSError:
+        return False
+    try:
+        if os.fstat(descriptor).st_ino != entry.get("inode", 0):
             return False
-        folders = folders_below(path)
+        folders = folders_below(f"/proc/self/fd/{descriptor}")
         for folder in folders:  # a frozen process of version 1 ends once it is thawed
-            for name, text in (("freezer.state", "THAWED"), ("cgroup.freeze", "0")):
-                if os.path.exists(f"{folder}/{name}"):
+            for name, text in (("freezer.state", "THAWED"), ("cgroup.freeze", "0"), ("cgroup.kill", "1")):
+                with suppress(OSError):
                     write(f"{folder}/{name}", text)
-        write(f"{path}/cgroup.kill", "1")
         return any([kill_members(folder) for folder in folders])
+    finally:
+        os.close(descriptor)
 
 
 def empty_groups(entries: list[Entry], until: float) -> bool:
@@ -253,8 +226,7 @@ def empty_groups(entries: list[Entry], until: float) -> bool:
 
 
 def remove_group(path: str, until: float) -> str:
-    """Removes a control group and those in it, which may take a moment after the last process has ended; returns what is
-    wrong. Only empty groups can be removed."""
+    """Removes an empty control group and those in it, once the last process has ended; returns what is wrong."""
     while True:
         try:
             for group in reversed(folders_below(path)):
@@ -269,20 +241,14 @@ def remove_group(path: str, until: float) -> str:
 
 
 def groups_of(entries: list[Entry]) -> list[Entry]:
-    """Returns the entry of each control group, with its inode if that is known; those in others first."""
-    out: dict[str, Entry] = {}
-    for entry in entries:
-        if "group" in entry:
-            out[str(entry["group"])] = entry
-    return sorted(out.values(), key=lambda entry: -str(entry["group"]).count("/"))
-
-
-def is_another(entry: Entry) -> bool:
-    """Returns whether a control group has gone, or another one has its name."""
-    try:
-        return os.stat(str(entry["group"])).st_ino != entry.get("inode", 0) and bool(entry.get("inode"))
-    except OSError:
-        return True
+    """Returns the entry of each control group that is still there, with its inode if that is known; those in others first."""
+    last = {str(entry["group"]): entry for entry in entries if "group" in entry}
+    out = []
+    for path, entry in sorted(last.items(), key=lambda item: -item[0].count("/")):
+        with suppress(OSError):
+            if os.stat(path).st_ino == entry.get("inode") or not entry.get("inode"):
+                out.append(entry)
+    return out
 
 
 # all of it
@@ -298,7 +264,7 @@ def put_back(entries: list[Entry], pidfds: list[int]) -> tuple[list[str], list[E
         with suppress(OSError):
             signal.pidfd_send_signal(descriptor, signal.SIGKILL)
     until, left, lines = time.monotonic() + PATIENCE, [], []
-    groups = [entry for entry in groups_of(entries) if not is_another(entry)]
+    groups = groups_of(entries)
     empty_groups(groups, until)
     for entry in groups:
         problem = remove_group(str(entry["group"]), until if entry.get("inode") else 0.0)
@@ -310,6 +276,16 @@ def put_back(entries: list[Entry], pidfds: list[int]) -> tuple[list[str], list[E
     return [text for text in problems.values() if text] + lines, left
 
 
+def close_if_ended(pidfd: int) -> bool:
+    """Closes the pidfd of a process that has ended; returns whether it has."""
+    try:
+        signal.pidfd_send_signal(pidfd, 0)
+    except ProcessLookupError:
+        os.close(pidfd)
+        return True
+    return False
+
+
 class Guardian:
     """What is to be put back, in memory and on disk below `folder`, and the processes to kill."""
 
@@ -317,7 +293,7 @@ class Guardian:
         self._undo = f"{folder}/{UNDO}"
         self._former = read_entries(self._undo)[0]  # what an earlier run left and couldn't be put back yet
         self._entries: list[Entry] = []
-        self._kept: dict[int, int] = {}  # pidfds by the tool's numbers
+        self._kept: list[int] = []  # pidfds
 
     def take(self, order: Entry, descriptors: list[int]) -> str:
         """Carries out one order, and returns the answer."""
@@ -325,12 +301,9 @@ class Guardian:
             self._add({name: str(order[name]) for name in ("file", "text", "set")})
         elif "group" in order:
             self._make_group(str(order["group"]))
-        elif "keep" in order:
-            self._kept[int(order["keep"])] = os.dup(descriptors[0])
         else:
-            descriptor = self._kept.pop(int(order["forget"]), None)
-            if descriptor is not None:
-                os.close(descriptor)
+            self._kept = [pidfd for pidfd in self._kept if not close_if_ended(pidfd)]
+            self._kept.append(os.dup(descriptors[0]))
         return "ok"
 
     def _add(self, entry: Entry) -> None:
@@ -353,7 +326,7 @@ class Guardian:
 
     def end(self) -> list[str]:
         """Puts everything back, and returns what could not be put back."""
-        problems, left = put_back(self._entries, list(self._kept.values()))
+        problems, left = put_back(self._entries, self._kept)
         replace_entries(self._undo, self._former + left)
         return problems
 
@@ -374,8 +347,7 @@ def report(problems: list[str]) -> int:
 
 
 def stand_by(guardian: socket.socket, tool: int, folder: str) -> int:
-    """Waits until the guardian has ended. If it was killed, this puts everything back once the tool has ended (`tool` is its
-    pidfd)."""
+    """Waits until the guardian has ended. If it was killed, puts everything back once the tool (a pidfd) has ended."""
     if guardian.recv(PACKET) == b"done":
         return 0
     select.select([tool], [], [])
@@ -393,18 +365,9 @@ def serve(tool: socket.socket, guardian: Guardian) -> None:
             answer = guardian.take(json.loads(packet), descriptors)
         except OSError as error:
             answer = error.strerror or str(error)
-        except (ValueError, KeyError, IndexError, TypeError) as error:
-            answer = f"the guardian can't do that: {error}"
         for descriptor in descriptors:
             os.close(descriptor)
         tool.send(answer.encode("utf-8", "replace"))
-
-
-def await_standby(number: int) -> None:
-    """Waits a while until the standby has ended: it has the tool's lock, too."""
-    until = time.monotonic() + STANDBY_PATIENCE
-    while os.waitpid(number, os.WNOHANG)[0] == 0 and time.monotonic() < until:
-        time.sleep(0.001)
 
 
 def main() -> int:
@@ -427,6 +390,7 @@ def main() -> int:
         os.open(os.devnull, os.O_RDONLY)  # descriptor 0
         return stand_by(theirs, pidfd, folder)
     theirs.close()
+    waiting = os.pidfd_open(standby)
     guardian = Guardian(folder)
     with suppress(OSError):  # the tool ended between order and answer
         serve(tool, guardian)
@@ -434,7 +398,7 @@ def main() -> int:
     with suppress(OSError):
         ours.send(b"done")
     ours.close()
-    await_standby(standby)
+    select.select([waiting], [], [], STANDBY_PATIENCE)  # it has the tool's lock, too
     return status
 
 

@@ -15,8 +15,7 @@ PACKAGES = "gcc, make, clang, bpftool, libbpf-dev"  # packages.txt: build
 
 
 def helper(name: str) -> str:
-    """Returns the path of a built program or library (`mapper`, `pages.so`). Unavailable where it isn't built, or where others could
-    have written it."""
+    """Returns the path of a built program or library (`mapper`). Unavailable where it isn't built, or others may write it."""
     path = LINUX / "out" / name
     is_installed = LINUX.parts[-3:] == INSTALLED
     if not path.exists():

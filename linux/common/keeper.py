@@ -5,15 +5,13 @@
         keeper.make_group(path)              # removed, with its processes killed
         keeper.own(process.pid)              # killed if it still runs
 
-A guardian (guardian.py) does so at an exception, a signal and SIGKILL of the tool alike. What is to be put back is on disk
-below /run/leversorrel before each change, so that if the guardian is killed too, its standby or the next start of any
-tool puts it back (`recover`).
+A guardian (guardian.py) does so at an exception, a signal and SIGKILL of the tool alike. What is to be put back is on disk before
+each change, so that if the guardian is killed too, its standby or the next start of any tool puts it back (`recover`).
 """
 
 from __future__ import annotations
 
 import ctypes
-import errno
 import fcntl
 import json
 import os
@@ -23,6 +21,7 @@ import stat
 import subprocess
 import sys
 from collections.abc import Sequence
+from contextlib import suppress
 from pathlib import Path
 from typing import Any
 
@@ -36,6 +35,7 @@ HOLDER = "lock"  # names who has the lock
 SHARED = ("tracefs", "debugfs")  # file systems that a kernel has once, whose root folder only root opens
 FSOPEN, FSCONFIG, FSMOUNT = 430, 431, 432  # system calls, the same on all processors
 CREATE, CLOSE_ON_EXEC = 6, 1  # FSCONFIG_CMD_CREATE; FSOPEN_CLOEXEC, FSMOUNT_CLOEXEC
+KINDS = {"file": "settings", "group": "control groups"}  # of entries
 GUARDIAN = Path(__file__).with_name("guardian.py")
 ENDED = "the guardian has ended: nothing more may be changed"
 
@@ -43,10 +43,8 @@ ENDED = "the guardian has ended: nothing more may be changed"
 def open_folder(folder: str) -> None:
     """Makes the tools' folder if it is missing. Unavailable if it isn't the caller's own, mode 0700."""
     try:
-        try:
+        with suppress(FileExistsError):
             os.mkdir(folder, 0o700)
-        except FileExistsError:
-            pass
         found = os.lstat(folder)
     except OSError as error:
         raise Unavailable(f"{folder} can't be made: {error.strerror}") from error
@@ -55,8 +53,7 @@ def open_folder(folder: str) -> None:
 
 
 def open_shared(kind: str) -> int:
-    """Opens the root folder of a file system that is mounted nowhere by it: the same one in every namespace of the machine.
-    OSError if the kernel has none."""
+    """Opens the root folder of a file system that all namespaces of the machine share. OSError if there is none."""
     library = ctypes.CDLL(None, use_errno=True)
 
     def call(*words: object) -> int:
@@ -82,38 +79,34 @@ def open_lock(folder: str) -> int:
     open_folder(folder)
     if folder != FOLDER:
         return os.open(folder, os.O_RDONLY | os.O_DIRECTORY | os.O_CLOEXEC)
-    problem: OSError | None = None
+    reason: str | None = None
     for kind in SHARED:
         try:
             return open_shared(kind)
         except OSError as error:
-            problem = error
-    raise Unavailable(f"the machine's lock ({' or '.join(SHARED)}) can't be opened: {problem and problem.strerror}")
+            reason = error.strerror
+    raise Unavailable(f"the machine's lock ({' or '.join(SHARED)}) can't be opened: {reason}")
 
 
 def take_lock(folder: str, name: str, wait: bool) -> int:
-    """Returns the lock's descriptor once it is held. Busy, with the holder's name, if it is taken; `wait`: waits until it
-    is free."""
-    lock = open_lock(folder)
-    named = os.open(f"{folder}/{HOLDER}", os.O_RDWR | os.O_CREAT | os.O_NOFOLLOW | os.O_CLOEXEC, 0o600)
+    """Returns the lock's descriptor once it is held. Busy, with the holder's name, if it is taken; `wait`: waits until it is free."""
+    lock, named = open_lock(folder), f"{folder}/{HOLDER}"
     try:
         try:
             fcntl.flock(lock, fcntl.LOCK_EX | fcntl.LOCK_NB)
-        except OSError as error:
-            if error.errno not in (errno.EAGAIN, errno.EACCES):
-                raise Unavailable(f"the lock can't be taken: {error.strerror}") from error
-            holder = escape(os.pread(named, 200, 0)).replace("\\x0a", "") or "another tool"
+        except BlockingIOError as error:
+            holder = "another tool"
+            with suppress(OSError):
+                holder = escape(read_bytes(named)[:200]).replace("\\x0a", "") or holder
             if not wait:
                 raise Busy(f"{holder} is running (--wait waits until it has ended)") from error
             print(f"{name}: waiting until {holder} has ended", file=sys.stderr, flush=True)
             fcntl.flock(lock, fcntl.LOCK_EX)
-        os.ftruncate(named, 0)
-        os.pwrite(named, f"{name}, process {os.getpid()},\n".encode(), 0)
+        with open(named, "w", encoding="ascii", opener=lambda path, flags: os.open(path, flags | os.O_NOFOLLOW, 0o600)) as file:
+            file.write(f"{name}, process {os.getpid()},\n")
     except BaseException:
         os.close(lock)
         raise
-    finally:
-        os.close(named)
     return lock
 
 
@@ -122,17 +115,13 @@ def put_back_what_was_left(folder: str) -> list[str]:
     if not os.path.exists(f"{folder}/{UNDO}"):
         return []
     entries, problems = put_back_all(folder)
-    counts = {
-        "settings": len({str(entry["file"]) for entry in entries if "file" in entry}),
-        "control groups": len({str(entry["group"]) for entry in entries if "group" in entry}),
-    }
+    counts = {what: len({entry[key] for entry in entries if key in entry}) for key, what in KINDS.items()}
     found = ", ".join(f"{count} {what}" for what, count in counts.items() if count)
     return [f"put back what a killed run left: {found or 'nothing'}", *map(escape, problems)]
 
 
 def recover(name: str, folder: str = FOLDER) -> list[str]:
-    """Puts back what an earlier run left that was killed with its guardian, and returns lines that report it. Does
-    nothing without the rights for it, and while another tool runs."""
+    """Puts back the same with the lock, and returns these lines. Does nothing without root's rights, and while another tool runs."""
     if os.geteuid() != 0 or not os.path.exists(f"{folder}/{UNDO}"):
         return []
     try:
@@ -146,8 +135,7 @@ def recover(name: str, folder: str = FOLDER) -> list[str]:
 
 
 def process_of(pidfd: int) -> int:
-    """Returns the number of the process that a pidfd refers to (proc(5), fdinfo, in the namespace of /proc). RunFailed
-    if the process has ended."""
+    """Returns the number of a pidfd's process (proc(5), fdinfo). RunFailed if the process has ended."""
     for line in lines(read_bytes(f"/proc/self/fdinfo/{pidfd}")):
         found = re.fullmatch(rb"Pid:\t([1-9][0-9]{0,9})", line)
         if found:
@@ -159,11 +147,9 @@ class Keeper:
     """Holds the lock from its making to its end. Busy if another tool has it; `wait`: waits for that tool's end."""
 
     def __init__(self, name: str, wait: bool = False, folder: str = FOLDER) -> None:
-        self._folder = folder
         self._lock = take_lock(folder, name, wait)
         for line in put_back_what_was_left(folder):
             print(f"{name}: {line}", file=sys.stderr, flush=True)
-        self._former: dict[str, str] = {}
         self._guardian: subprocess.Popen[bytes] | None = None
         try:
             self._socket, theirs = socket.socketpair(socket.AF_UNIX, socket.SOCK_SEQPACKET)
@@ -196,14 +182,12 @@ class Keeper:
 
     def set(self, path: PathText, value: object, undo: str | None = None) -> None:
         """Writes a setting. At the end its former value comes back, or `undo` if the file doesn't show its value."""
-        name, now = str(path), ""
+        name, text = str(path), str(value) if undo is None else ""
         try:
-            if undo is None:
-                now = selected_word(read(name))
-                if now == str(value):
-                    return
-            former = self._former.setdefault(name, now if undo is None else undo)
-            self._send_order({"file": name, "text": former, "set": "" if undo is not None else str(value)})
+            former = selected_word(read(name)) if undo is None else undo
+            if former == text:
+                return
+            self._send_order({"file": name, "text": former, "set": text})
             write(name, value)
         except OSError as error:
             raise Unavailable(f"{name} can't be set to {value}: {error.strerror}") from error
@@ -219,21 +203,16 @@ class Keeper:
         """Passes a child of the tool to the guardian; it doesn't outlive the tool."""
         descriptor = os.pidfd_open(process)
         try:
-            self.own_descriptor(descriptor, process)
+            self.own_descriptor(descriptor)
         finally:
             os.close(descriptor)
 
-    def own_descriptor(self, descriptor: int, number: int = 0) -> None:
+    def own_descriptor(self, descriptor: int) -> None:
         """Passes a process to the guardian by its pidfd, which the caller may close afterwards."""
-        self._send_order({"keep": number or process_of(descriptor)}, [descriptor])
-
-    def disown(self, process: int) -> None:
-        """Notes that such a process has ended."""
-        self._send_order({"forget": process})
+        self._send_order({"keep": True}, [descriptor])
 
     def close(self) -> None:
-        """Has the guardian restore everything, and waits for it. The guardian reports what it could not restore on
-        standard error."""
+        """Has the guardian restore everything, and waits for it. It reports on standard error what it could not restore."""
         guardian, self._guardian = self._guardian, None
         if guardian is None:
             return
@@ -244,11 +223,8 @@ class Keeper:
     def _send_order(self, order: dict[str, Any], descriptors: Sequence[int] = ()) -> None:
         """Gives the guardian an order. RunFailed if it doesn't carry it out."""
         answer = b""
-        if self._guardian is not None:
-            try:
-                socket.send_fds(self._socket, [json.dumps(order).encode()], list(descriptors))
-                answer = self._socket.recv(PACKET)
-            except OSError:
-                pass  # it was killed
+        with suppress(OSError):  # it was killed, or `close` was called
+            socket.send_fds(self._socket, [json.dumps(order).encode()], list(descriptors))
+            answer = self._socket.recv(PACKET)
         if answer != b"ok":
             raise RunFailed(answer.decode("utf-8", "replace") or ENDED)

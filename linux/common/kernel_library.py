@@ -10,12 +10,12 @@ from functools import lru_cache
 
 from .errors import Unavailable
 from .helpers import helper
+from .proc import missing_capabilities
 
 ROOM = 1 << 16  # bytes of messages
 STATES, WINDOW, NAME, TABLES, ENTRIES = 1024, 1 << 16, 64, 32, 512  # linux/kernel/shared.h
 LACKING = re.compile(r"failed to resolve CO-RE relocation <[a-z_]+> \[[0-9]+\] (?:struct|enum|union) ([A-Za-z0-9_.]+)")
-SIZES = re.compile(r"^struct .* has [0-9]+ bytes in this kernel.*$", re.MULTILINE)
-RIGHTS = {"CAP_BPF": 39, "CAP_PERFMON": 38}  # include/uapi/linux/capability.h
+SAID = re.compile(r"^(?:this kernel has no |struct .* has [0-9]+ bytes in this kernel).*$", re.MULTILINE)
 
 
 class Request(ctypes.Structure):
@@ -92,14 +92,11 @@ def open_programs(name: str, *words: object) -> tuple[int, list[str]]:
 
 def explain(said: str, number: int) -> str:
     """Returns in a line why programs aren't loaded, and in further ones the end of what libbpf and the verifier said."""
-    for line in said.splitlines():
-        if line.startswith("this kernel has no "):
-            return line
-    lacking, sizes = LACKING.search(said), SIZES.search(said)
+    ours, lacking = SAID.search(said), LACKING.search(said)
+    if ours:
+        return ours[0]
     if lacking:
         return f"this kernel has no {lacking[1].replace('.counter', '')}"
-    if sizes:
-        return sizes[0]
     if not os.path.exists("/sys/kernel/btf/vmlinux"):
         return "no type information: no /sys/kernel/btf/vmlinux (DEBUG_INFO_BTF)"
     rights = lacking_rights()
@@ -111,7 +108,4 @@ def explain(said: str, number: int) -> str:
 
 def lacking_rights() -> list[str]:
     """Returns the capabilities that the programs need and this process lacks; CAP_SYS_ADMIN has both."""
-    with open("/proc/self/status", encoding="ascii", errors="replace") as file:
-        found = re.search("^CapEff:\\s*([0-9a-f]+)$", file.read(), re.MULTILINE)
-    bits = int(found[1], 16) if found else 0
-    return [] if bits >> 21 & 1 else [name for name, bit in RIGHTS.items() if not bits >> bit & 1]
+    return missing_capabilities("CAP_BPF", "CAP_PERFMON") if missing_capabilities("CAP_SYS_ADMIN") else []

@@ -14,8 +14,7 @@ from typing import NamedTuple, Sequence
 
 from .errors import Unavailable
 from .files import BASE, read
-from .kernel_library import STATES, WINDOW, PageState, Request, load_library, open_programs
-__all__ = ["STATES", "KernelMemory", "ListChanged", "PageState", "Queue", "numa_nodes"]
+from .kernel_library import PageState, Request, load_library, open_programs
 
 TRIES = 20  # walks of a list that changes
 LONGEST = 1 << 20  # pages of a queue
@@ -28,13 +27,8 @@ REASONS = {
 }
 
 
-class ListChanged(Unavailable):
-    """A list changed during each of the walks."""
-
-
 class Tables(NamedTuple):
-    """What reads page tables (struct tables of pages.c): two programs, where their copies are, where the map of all memory begins, the
-    levels of tables."""
+    """What reads page tables: struct tables of pages.c, without its place."""
 
     find: int
     copy: int
@@ -62,23 +56,23 @@ class KernelMemory:
         self._programs = open_programs("thp_memory_open")[0]
         self._window = self._library.thp_memory_window(self._programs).contents
         self._answer = self._try("describe_kernel", Request())  # of the queues; all else works without
-        self._numa_nodes: list[int] = []
         self._map = self._levels = 0
 
     def _try(self, name: str, request: Request) -> int:
+        """Runs a program; returns its answer."""
         answer = int(self._library.thp_memory_run(self._programs, name.encode(), ctypes.byref(request)))
         if answer < 0:
             raise Unavailable(f"a BPF program can't be run: {os.strerror(-answer)}")
         return answer
 
     def _demand(self, answer: int) -> None:
+        """Unavailable, with the reason, where a program finds nothing."""
         if answer == NO_FIELD:
             raise Unavailable(f"this kernel has no {self._window.lacking.decode()}")
         if answer:
             raise Unavailable(REASONS[answer])
 
     def _run(self, name: str, **numbers: int) -> Request:
-        """Runs a program. Unavailable, with the reason, where it finds nothing."""
         request = Request(**numbers)
         self._demand(self._try(name, request))
         return request
@@ -107,10 +101,7 @@ class KernelMemory:
 
     def numa_nodes(self) -> Sequence[int | None]:
         """Returns the NUMA nodes for which a control group has a queue each; None: one queue has the pages of all."""
-        if not self._window.has_lists:
-            return [None]
-        self._numa_nodes = self._numa_nodes or numa_nodes()
-        return self._numa_nodes
+        return numa_nodes() if self._window.has_lists else (None,)
 
     def locate_queues(self) -> str:
         """Returns where this kernel has the queues, in words. Unavailable where they can't be read."""
@@ -125,21 +116,16 @@ class KernelMemory:
 
     def _queue(self, group: int, node: int) -> Queue:
         for _ in range(TRIES):
-            request = Request(group=group, numa_node=node)
+            request, answer = Request(group=group, numa_node=node), 0
             folios: list[int] = []
-            while len(folios) < LONGEST:
+            while answer != CHANGED and len(folios) < LONGEST:
                 answer = self._try("read_queue", request)
-                if answer == CHANGED:
-                    break
-                self._demand(answer)
-                folios += self._window.folios[: request.found]
-                if not request.at:
-                    return Queue(folios, request.length, node)
-        raise ListChanged(f"the queue of {group:#x} changes all the time")
-
-    def queue_frames(self, group: int) -> list[int]:
-        """Returns the first frames of the pages in a control group's queues, oldest first in each."""
-        return [self.frame(folio) for queue in self.queues(group) for folio in queue.folios]
+                if answer != CHANGED:
+                    self._demand(answer)
+                    folios += self._window.folios[: request.found]
+                    if not request.at:
+                        return Queue(folios, request.length, node)
+        raise Unavailable(f"the queue of {group:#x} changes all the time")
 
     # structures of pages
 
@@ -161,8 +147,7 @@ class KernelMemory:
         return self.first_page() + self.page_size() * frame
 
     def page_states(self, frames: Sequence[int]) -> list[PageState]:
-        """Returns what the kernel's structures of at most STATES huge pages contain; valid until the next call. Unavailable where a
-        field is missing (before Linux 6.12)."""
+        """Returns what the kernel's structures of at most STATES huge pages contain; valid until the next call."""
         self.first_page()
         states: ctypes.Array[PageState] = self._window.states
         for state, frame in zip(states, frames):
@@ -192,8 +177,7 @@ class KernelMemory:
         return int(self._library.thp_memory_program(self._programs, name.encode()))
 
     def _find_own_page(self) -> None:
-        """Finds the map of all memory and the struct page of frame 0, once: by a page of ours, which is found by our page tables and
-        its content, and by the file that it belongs to."""
+        """Finds the map of all memory and the struct page of frame 0, once, by a page of ours and the file that it belongs to."""
         if self._window.first_page:
             return
         descriptor = os.memfd_create("thpsplit", os.MFD_CLOEXEC)
@@ -220,6 +204,3 @@ def numa_nodes() -> list[int]:
         return [0]
     ranges = [part.split("-") for part in read(NUMA_NODES).strip().split(",") if part]
     return [node for part in ranges for node in range(int(part[0]), int(part[-1]) + 1)]
-
-
-assert ctypes.sizeof(PageState) == 32 and WINDOW * 8 < 1 << 20

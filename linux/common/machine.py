@@ -14,6 +14,8 @@ from .groups import find_hierarchy
 from .kernel_memory import KernelMemory
 from .page_files import Frames, frames_at
 
+INITIAL_NAMESPACE = 0xEFFFFFFC  # include/linux/proc_ns.h: PROC_PID_INIT_INO
+
 
 @dataclass(frozen=True)
 class Part:
@@ -43,41 +45,38 @@ def table(parts: list[Part]) -> str:
     return "\n".join(f"{each.name:{width}}  {'yes' if each.here else 'no '}  {each.text}" for each in parts)
 
 
+def need(is_so: object, reason: str) -> None:
+    """Unavailable, with this reason, where something isn't so."""
+    if not is_so:
+        raise Unavailable(reason)
+
+
 def kernel() -> str:
     """Returns the kernel's version."""
     return f"Linux {os.uname().release}, {os.uname().machine}"
 
 
 def privileged() -> str:
-    if os.geteuid() != 0:
-        raise Unavailable("not root")
+    need(os.geteuid() == 0, "not root")
     return "root"
 
 
 def huge_pages() -> str:
-    if not os.path.isdir(THP):
-        raise Unavailable("this kernel has no transparent huge pages (TRANSPARENT_HUGEPAGE)")
+    need(os.path.isdir(THP), "this kernel has no transparent huge pages (TRANSPARENT_HUGEPAGE)")
     mode = selected_word(read(f"{THP}/enabled"))
-    if mode == "never":
-        raise Unavailable(f"transparent huge pages are switched off ({THP}/enabled: never)")
+    need(mode != "never", f"transparent huge pages are switched off ({THP}/enabled: never)")
     return f"enabled: {mode}"
 
 
-def orders() -> list[int]:
-    """Returns the orders of which this kernel has pages with settings of their own."""
-    return [order for order in range(2, PMD_ORDER + 1) if os.path.isdir(size_folder(order))]
-
-
 def sizes() -> str:
-    if not orders():
-        raise Unavailable("no sizes with settings of their own (before Linux 6.8)")
-    return "orders " + ", ".join(map(str, orders()))
+    orders = [str(order) for order in range(2, PMD_ORDER + 1) if os.path.isdir(size_folder(order))]
+    need(orders, "no sizes with settings of their own (before Linux 6.8)")
+    return "orders " + ", ".join(orders)
 
 
 def underused() -> str:
     for path in (SWITCH, PTES_NONE):
-        if not os.path.exists(path):
-            raise Unavailable(f"no {path} (before Linux 6.12)")
+        need(os.path.exists(path), f"no {path} (before Linux 6.12)")
     return f"shrink_underused {read(SWITCH).strip()}, max_ptes_none {read(PTES_NONE).strip()}"
 
 
@@ -87,31 +86,18 @@ def groups() -> str:
 
 
 def counters() -> str:
-    if "thp_deferred_split_page" not in read("/proc/vmstat"):
-        raise Unavailable("no thp_deferred_split_page in /proc/vmstat")
+    need("thp_deferred_split_page" in read("/proc/vmstat"), "no thp_deferred_split_page in /proc/vmstat")
     return "/proc/vmstat" + (", hugepages-*kB/stats" if os.path.isdir(f"{size_folder(PMD_ORDER)}/stats") else "")
 
 
 def frames() -> str:
-    demand_frame_numbers()
-    Frames().close()
-    return "/proc/kpageflags, /proc/kpagecount"
-
-
-def demand_frame_numbers() -> None:
-    """Unavailable where the kernel hides frame numbers: it shows 0 in their place (Documentation/admin-guide/mm/pagemap.rst)
-    to who lacks CAP_SYS_ADMIN. Tried on a page of our own."""
+    """Tried on a page of our own: the kernel shows 0 as frame to who lacks CAP_SYS_ADMIN (mm/pagemap.rst)."""
     page = mmap.mmap(-1, BASE, flags=mmap.MAP_PRIVATE | mmap.MAP_ANONYMOUS)
     page[0] = 1
-    view = ctypes.c_char.from_buffer(page)
-    frame = frames_at(os.getpid(), ctypes.addressof(view), 1)[0]
-    del view
-    page.close()
-    if not frame:
-        raise Unavailable("the kernel shows no frame numbers: CAP_SYS_ADMIN is missing")
-
-
-INITIAL_NAMESPACE = 0xEFFFFFFC  # include/linux/proc_ns.h: PROC_PID_INIT_INO
+    frame = frames_at(os.getpid(), ctypes.addressof(ctypes.c_char.from_buffer(page)), 1)[0]
+    need(frame, "the kernel shows no frame numbers: CAP_SYS_ADMIN is missing")
+    Frames().close()
+    return "/proc/kpageflags, /proc/kpagecount"
 
 
 def namespace_note() -> str:
@@ -142,20 +128,18 @@ def memory() -> tuple[KernelMemory | None, list[Part]]:
 
 def common_parts() -> list[Part]:
     """Returns the parts that every tool needs."""
-    looks: list[tuple[str, Callable[[], str]]] = [
-        ("root", privileged),
-        ("huge pages", huge_pages),
-        ("page sizes", sizes),
-        ("underused pages", underused),
-        ("memory control groups", groups),
-        ("frames", frames),
-        ("counters", counters),
+    return [
+        probe_part("root", privileged),
+        probe_part("huge pages", huge_pages),
+        probe_part("page sizes", sizes),
+        probe_part("underused pages", underused),
+        probe_part("memory control groups", groups),
+        probe_part("frames", frames),
+        probe_part("counters", counters),
     ]
-    return [probe_part(name, look) for name, look in looks]
 
 
 def demand(parts: list[Part], names: list[str]) -> None:
     """Unavailable, with the reason of the first of these parts that isn't here."""
     for each in parts:
-        if each.name in names and not each.here:
-            raise Unavailable(f"{each.name}: {each.text}")
+        need(each.here or each.name not in names, f"{each.name}: {each.text}")

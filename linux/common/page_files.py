@@ -6,7 +6,6 @@ one 64-bit number for each base page; frames are counted from 0.
 
 from __future__ import annotations
 
-import enum
 import os
 from array import array
 from typing import Sequence
@@ -18,7 +17,7 @@ _PRESENT = 1 << 63
 _FRAME = (1 << 55) - 1
 
 
-class PageFlag(enum.IntFlag):
+class PageFlag:
     """Bits of /proc/kpageflags that the tools use."""
 
     ANON = 1 << 12
@@ -29,9 +28,6 @@ class PageFlag(enum.IntFlag):
     HWPOISON = 1 << 19
     THP = 1 << 22
     MLOCKED = 1 << 33
-
-
-_HEAD, _TAIL = int(PageFlag.COMPOUND_HEAD), int(PageFlag.COMPOUND_TAIL)  # the operators of plain numbers are faster
 
 
 class TooShort(OSError):
@@ -78,24 +74,21 @@ def frames_at(process: int, address: int, count: int) -> list[int | None]:
 
 
 class Frames:
-    """Flags, map counts and control groups by frame."""
+    """Flags (PageFlag) and map counts by frame."""
 
     def __init__(self) -> None:
-        self._flags, self._counts = NumberFile("/proc/kpageflags"), NumberFile("/proc/kpagecount")
-
-    def flags(self, first: int, count: int) -> Sequence[int]:
-        """Returns the flags (PageFlag) of `count` frames."""
-        return self._flags.at(first, count)
+        self._files = [NumberFile("/proc/kpageflags"), NumberFile("/proc/kpagecount")]
+        self.flags = self._files[0].at
 
     def counts(self, first: int, count: int) -> tuple[int, ...]:
         """Returns how often each of `count` frames is mapped."""
-        return tuple(self._counts.at(first, count))
+        return tuple(self._files[1].at(first, count))
 
     def whole(self, first: int, count: int) -> int:
         """Returns how many of these frames are still parts of one compound page that begins at the first."""
-        flags = self.flags(first, count)
-        return sum(1 for head in flags[:1] if head & _HEAD) + sum(1 for tail in flags[1:] if tail & _TAIL)
+        head, *tails = self.flags(first, count)
+        return sum(map(bool, [head & PageFlag.COMPOUND_HEAD, *(tail & PageFlag.COMPOUND_TAIL for tail in tails)]))
 
     def close(self) -> None:
-        self._flags.close()
-        self._counts.close()
+        for file in self._files:
+            file.close()

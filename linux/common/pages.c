@@ -1,15 +1,14 @@
 /* What a look at huge pages reads in bulk, as a shared library for linux/common/workers.py.
  *
- *   start_worker    a process that reads what may wait for another process's mmap_lock: page tables, smaps, mem
+ *   start_worker    a process that reads what may wait for another process's mmap_lock: page tables, maps, smaps
  *   scan_frames     which subpages of many huge pages are zero-filled, by a BPF program, in threads
- *
- * All of them only read. Content is not read by process_vm_readv: that pins what it reads, and a pin of a page that a fork
- * shares makes the kernel copy it first (FAULT_FLAG_UNSHARE in mm/gup.c).
  */
 #define _GNU_SOURCE
 #include <errno.h>
 #include <fcntl.h>
+#include <linux/bpf.h>
 #include <pthread.h>
+#include <sched.h>
 #include <signal.h>
 #include <stdint.h>
 #include <stdio.h>
@@ -21,7 +20,7 @@
 #include <unistd.h>
 
 enum { BASE = 4096, BLOCK = 512, PMD_ORDER = 9, RECENT = 64, TEXT = 1 << 16, LINE = 256, BLOCKS = 1 << 18, TOUCHES = 16,
-       CLONE_WITH_PIDFD = 4096, SYS_CLOSE_RANGE = 436 };
+       WORD = 64, MOST_THREADS = 16 };
 
 /* arch/x86/include/asm/pgtable_types.h */
 enum { PRESENT = 1, LEAF = 1 << 7, NO_ACCESS = 1 << 8, ENTRIES = 512, TABLE_BITS = 9 };
@@ -38,8 +37,8 @@ struct piece {
     uint64_t set[BLOCK / 64];
 };
 
-/* Whether a block of frames has huge anonymous pages, once it was touched often: most memory has none. A number with the
- * block in the high half, the touches, and one of these states in the last two bits. Workers share the table. */
+/* Whether a block of frames has huge anonymous pages, once it was touched often: the block in the high half, the touches, and one
+ * of these states in the last two bits. Most memory has none. Workers share the table. */
 enum { UNKNOWN, NONE, SOME, STATES };
 typedef uint64_t known;
 
@@ -63,20 +62,10 @@ struct tables {
     int64_t levels, place;              /* levels of tables; which copy is ours */
 };
 
-/* include/uapi/linux/bpf.h: BPF_PROG_TEST_RUN */
-enum { SYS_BPF = 321, TEST_RUN = 10, WORD = 64, MOST_THREADS = 16 };
-struct test_run {
-    uint32_t program, answer, in_size, out_size;
-    uint64_t in, out;
-    uint32_t repeat, duration, context_size, context_out_size;
-    uint64_t context, context_out;
-    uint32_t flags, cpu, batch_size, unused;
-};
-
 /* Runs a BPF program once; returns whether its answer is 0. */
 static int run_program(int program, void *context, long size) {
-    struct test_run run = { .program = (uint32_t)program, .context_size = (uint32_t)size, .context = (uintptr_t)context };
-    return syscall(SYS_BPF, TEST_RUN, &run, sizeof run) >= 0 && !run.answer;
+    union bpf_attr run = { .test = { .prog_fd = program, .ctx_size_in = size, .ctx_in = (uintptr_t)context } };
+    return syscall(SYS_bpf, BPF_PROG_TEST_RUN, &run, sizeof run) >= 0 && !run.test.retval;
 }
 
 /* linux/kernel/shared.h: struct thp_request */
@@ -213,15 +202,11 @@ static void walk_table(struct walk *w, uint64_t table, int level, uint64_t begin
 
 struct span { uint64_t low, high; };
 
-static int has_bit(const uint64_t *set, long i) {
-    return set[i / 64] >> i % 64 & 1;
-}
-
 /* The blocks of addresses that a piece lies in. */
 static struct span blocks_of(const struct piece *p) {
-    long first = 0, last = (1l << p->order) - 1;
-    while (first < last && !has_bit(p->set, first)) first++;
-    while (last > first && !has_bit(p->set, last)) last--;
+    long first = 0, last = BLOCK - 1;
+    while (!(p->set[first / 64] >> first % 64 & 1)) first++;
+    while (!(p->set[last / 64] >> last % 64 & 1)) last--;
     return (struct span){ (p->address + first * BASE) & -(uint64_t)(BLOCK * BASE),
                           ((p->address + last * BASE) | (BLOCK * BASE - 1)) + 1 };
 }
@@ -242,84 +227,62 @@ static int open_file(int thread, const char *name) {
     return open(path, O_RDONLY | O_CLOEXEC);
 }
 
-static int is_digit(char c) {
-    return c && strchr("0123456789abcdef", c);
-}
+/* What status and smaps contain of a process: amounts in bytes; in `out` the locked VMAs, ascending, adjacent ones joined. */
+struct texts {
+    int64_t anonymous, locked;
+    struct span *out, here;             /* here: the VMA that the lines are of */
+    long found, most;
+};
 
-/* Reads the range at the begin of a line of smaps, `7f00-7f08 rw-p ..`; returns 0 where the line is another one. */
-static int read_range(const char *line, struct span *range) {
-    char *end;
-    if (!is_digit(*line)) return 0;
-    uint64_t low = strtoull(line, &end, 16);
-    if (*end != '-' || !is_digit(end[1])) return 0;
-    uint64_t high = strtoull(end + 1, &end, 16);
-    if (*end != ' ' || low >= high) return 0;
-    *range = (struct span){ low, high };
-    return 1;
-}
-
-/* Whether a line of flags, `VmFlags: rd wr lo`, has one of two letters. */
-static int has_flag(const char *line, const char *flag) {
-    for (const char *at = line + strlen("VmFlags:"); (at = strstr(at, flag)); at++)
-        if (at[-1] == ' ' && (at[2] == ' ' || !at[2])) return 1;
+/* Whether a line of flags, `VmFlags: rd wr lo`, has `lo`. */
+static int is_locked(const char *line) {
+    for (const char *at = line; (at = strstr(at, " lo")); at++)
+        if (at[3] == ' ' || !at[3]) return 1;
     return 0;
 }
 
-/* Has `take` take each line of a file; of long ones the begin. Returns 0, or -errno. A line counts by its first characters
- * alone, and lines end at line feeds alone, which the kernel escapes in names: no name is taken for another line. */
-static long read_lines(int file, void (*take)(void *state, const char *line), void *state) {
+static void take_line(struct texts *t, const char *line) {
+    struct span range;
+    char space;
+    if (sscanf(line, "%lx-%lx%c", &range.low, &range.high, &space) == 3 && space == ' ' && range.low < range.high)
+        t->here = range;
+    else if (!strncmp(line, "RssAnon:", 8))
+        t->anonymous = strtoll(line + 8, NULL, 10) << 10;
+    else if (!strncmp(line, "VmLck:", 6))
+        t->locked = strtoll(line + 6, NULL, 10) << 10;
+    else if (!strncmp(line, "VmFlags:", 8) && is_locked(line)) {
+        if (t->found && t->found <= t->most && t->out[t->found - 1].high == t->here.low)
+            t->out[t->found - 1].high = t->here.high;
+        else if (t->found++ < t->most)
+            t->out[t->found - 1] = t->here;
+    }
+}
+
+/* Takes each line of an open file, and closes it; of long ones the begin. Returns 0, or -errno. A line counts by its first
+ * characters, and ends at a line feed, which the kernel escapes in names: no name is taken for another line. */
+static long read_texts(int file, struct texts *t) {
     char text[TEXT], line[LINE];
-    long length = 0, got;
-    while ((got = read(file, text, sizeof text)) > 0)
+    long length = 0, got = -1;
+    while (file >= 0 && (got = read(file, text, sizeof text)) > 0)
         for (long i = 0; i < got; i++) {
             if (text[i] == '\n') {
                 line[length] = 0;
-                take(state, line);
+                take_line(t, line);
                 length = 0;
             } else if (length < LINE - 1) {
                 line[length++] = text[i] ? text[i] : '?';
             }
         }
-    return got < 0 ? -errno : 0;
-}
-
-struct amount { const char *name; int64_t bytes; };
-
-static void take_amount(void *state, const char *line) {
-    struct amount *a = state;
-    if (!strncmp(line, a->name, strlen(a->name))) a->bytes = strtoll(line + strlen(a->name), NULL, 10) << 10;
-}
-
-/* The amount of a line `NAME: 12 kB`, in bytes, 0 where there is none, or -errno. */
-static int64_t read_amount(int file, const char *name) {
-    struct amount a = { .name = name };
-    long error = file < 0 ? -errno : read_lines(file, take_amount, &a);
+    long error = got < 0 ? -errno : 0;
     if (file >= 0) close(file);
-    return error ? error : a.bytes;
+    return error;
 }
 
-struct locked {
-    struct span *out, here;             /* here: the VMA that the lines are of */
-    long found, most;
-};
-
-static void take_line(void *state, const char *line) {
-    struct locked *l = state;
-    if (read_range(line, &l->here) || strncmp(line, "VmFlags:", 8) || !has_flag(line, "lo")) return;
-    if (l->found && l->found <= l->most && l->out[l->found - 1].high == l->here.low) {
-        l->out[l->found - 1].high = l->here.high;
-        return;
-    }
-    if (l->found < l->most) l->out[l->found] = l->here;
-    l->found++;
-}
-
-/* Fills `out` with at most `most` spans: the locked VMAs of an open /proc/PID/smaps, ascending, adjacent ones joined.
- * Returns how many there are in all, or -errno. */
+/* Fills `out` with at most `most` locked VMAs of an open /proc/PID/smaps. Returns how many there are in all, or -errno. */
 long find_locked(int file, struct span *out, long most) {
-    struct locked l = { .out = out, .most = most };
-    long error = read_lines(file, take_line, &l);
-    return error ? error : l.found;
+    struct texts t = { .out = out, .most = most };
+    long error = read_texts(dup(file), &t);
+    return error ? error : t.found;
 }
 
 /* A huge page: where its content is, its subpages, which of them were read, and which are zero-filled. */
@@ -336,9 +299,15 @@ struct room {
     struct tables tables;
 };
 
-enum { WALK, COMPARE };
+enum { WALK, TABLES };
 struct request { int32_t what, thread, process, with_small; int64_t most, count; };
 struct reply { int64_t found, lost, small, others, changed, spans; };
+
+/* Where the highest page table is of the process whose /proc/PID/maps is open; 0 where there is none. */
+static uint64_t find_table(const struct room *room, int maps) {
+    struct table_request request = { .at = (uint64_t)maps };
+    return run_program(room->tables.find, &request, sizeof request) ? request.at - room->tables.map : 0;
+}
 
 /* Reads how a process maps huge pages: `found` pieces, or -errno. Counts pieces that had no room, pages below PMD size that
  * weren't asked for, anonymous base pages beside huge ones, and base pages whose flags don't fit their page table. Then its
@@ -347,60 +316,34 @@ static struct reply walk(const struct room *room, int flags_file, const struct r
     struct walk w = { .known = q->count ? NULL : room->known, .tables = &room->tables, .flags_file = flags_file,
                       .process = q->process, .with_small = q->with_small, .out = room->pieces, .block = ~0ul, .order = -1,
                       .most = q->count ? room->most_pieces - q->count : q->most };
-    int maps = open_file(q->thread, "maps");
-    struct table_request request = { .at = (uint64_t)maps };
-    struct reply out = { .found = -errno };
-    if (maps < 0) return out;
-    int has_tables = run_program(room->tables.find, &request, sizeof request);
-    uint64_t table = request.at - room->tables.map;
-    if (has_tables && q->count) walk_again(&w, table, room->pieces + w.most, q->count);
-    else if (has_tables) walk_table(&w, table, (int)room->tables.levels - 1, 0, 0, ~0ul);
+    int maps = open_file(q->thread, "maps"); /* open, its page table is no other process's */
+    if (maps < 0) return (struct reply){ .found = -errno };
+    uint64_t table = find_table(room, maps);
+    if (table && q->count) walk_again(&w, table, room->pieces + w.most, q->count);
+    else if (table) walk_table(&w, table, (int)room->tables.levels - 1, 0, 0, ~0ul);
     close(maps);
-    out = (struct reply){ has_tables ? w.found : -ESRCH, w.lost, w.small, 0, w.changed, 0 };
-    if (out.found < 0 || q->count) return out;
-    out.others = read_amount(open_file(q->thread, "status"), "RssAnon:") / BASE;
+    struct reply out = { table ? w.found : -ESRCH, w.lost, w.small, 0, w.changed, 0 };
+    if (!table || q->count) return out;
+    struct texts t = { .out = room->spans, .most = room->most_spans };
+    out.spans = read_texts(open_file(q->thread, "status"), &t);
+    out.others = t.anonymous / BASE;
     for (long i = 0; i < w.found; i++)
         for (int j = 0; j < BLOCK / 64; j++) out.others -= __builtin_popcountl(w.out[i].set[j]);
     if (out.others < 0) out.others = 0; /* the kernel's count lags behind */
-    if (!out.found) return out;
-    out.spans = read_amount(open_file(q->thread, "status"), "VmLck:");
-    if (out.spans > 0) {
-        int file = open_file(q->thread, "smaps");
-        out.spans = file < 0 ? -errno : find_locked(file, room->spans, room->most_spans);
-        if (file >= 0) close(file);
+    if (out.found && !out.spans && t.locked) {
+        out.spans = read_texts(open_file(q->thread, "smaps"), &t);
+        if (!out.spans) out.spans = t.found;
     }
     return out;
 }
 
-static long compare_spaces(int a, int b) {
-    return syscall(SYS_kcmp, a, b, 1 /* KCMP_VM */, 0, 0);
-}
-
-/* Replaces each of `count` processes by the first of them that has the same address space: kcmp gives an order, so that
- * each is searched for among the ones before. -errno where there is no kcmp. */
-static struct reply find_same(const struct room *room, const struct request *q) {
-    int32_t *all = (int32_t *)room->pieces, *sorted = all + q->count;
-    int self = getpid();
-    long have = 0;
-    if (compare_spaces(self, self)) return (struct reply){ .found = -errno };
+/* Replaces each of `count` threads by where its highest page table is: threads that share an address space have the same. */
+static struct reply find_tables(const struct room *room, const struct request *q) {
+    uint64_t *all = (uint64_t *)room->pieces;
     for (long i = 0; i < q->count; i++) {
-        long low = 0, high = have, order = 1;
-        while (low < high && order) {
-            long middle = (low + high) / 2;
-            order = compare_spaces(all[i], sorted[middle]);
-            if (!order) all[i] = sorted[middle];
-            else if (order == 1) high = middle;
-            else if (order == 2) low = middle + 1;
-            else if (compare_spaces(all[i], all[i])) break; /* it ended, and stays its own */
-            else { /* the one before ended */
-                memmove(sorted + middle, sorted + middle + 1, (have-- - middle - 1) * sizeof *sorted);
-                low = 0;
-                high = have;
-            }
-        }
-        if (low < high || !order) continue;
-        memmove(sorted + low + 1, sorted + low, (have++ - low) * sizeof *sorted);
-        sorted[low] = all[i];
+        int maps = open_file((int)all[i], "maps");
+        all[i] = maps < 0 ? 0 : find_table(room, maps);
+        if (maps >= 0) close(maps);
     }
     return (struct reply){ .found = q->count };
 }
@@ -409,7 +352,7 @@ static struct reply find_same(const struct room *room, const struct request *q) 
 static void serve(const struct room *room) {
     struct request q;
     while (read(0, &q, sizeof q) == sizeof q) {
-        struct reply out = q.what == WALK ? walk(room, 1, &q) : find_same(room, &q);
+        struct reply out = q.what == WALK ? walk(room, 1, &q) : find_tables(room, &q);
         if (write(0, &out, sizeof out) != sizeof out) break;
     }
 }
@@ -422,10 +365,10 @@ int start_worker(struct room *room, int flags_file, int *ends) {
     if (socketpair(AF_UNIX, SOCK_SEQPACKET | SOCK_CLOEXEC, 0, sockets)) return -errno;
     sigfillset(&all);
     pthread_sigmask(SIG_SETMASK, &all, &before);
-    long child = syscall(SYS_clone, CLONE_WITH_PIDFD | SIGCHLD, 0, &ends[1], 0, 0), error = errno;
+    long child = syscall(SYS_clone, CLONE_PIDFD | SIGCHLD, 0, &ends[1], 0, 0), error = errno;
     if (!child) {
         if (!prctl(PR_SET_PDEATHSIG, SIGKILL) && getppid() == parent && dup2(sockets[1], 0) == 0 && dup2(flags_file, 1) == 1 &&
-            dup2(room->tables.find, 2) == 2 && dup2(room->tables.copy, 3) == 3 && !syscall(SYS_CLOSE_RANGE, 4, ~0u, 0)) {
+            dup2(room->tables.find, 2) == 2 && dup2(room->tables.copy, 3) == 3 && !close_range(4, ~0u, 0)) {
             room->tables.find = 2;
             room->tables.copy = 3;
             serve(room);

@@ -18,24 +18,21 @@ from .files import read_bytes
 from .text import escape, lines
 
 ROOT = "/proc"  # tests put another folder here
-CAPABILITIES = {"CAP_KILL": 5, "CAP_SYS_PTRACE": 19, "CAP_SYS_ADMIN": 21, "CAP_PERFMON": 38, "CAP_BPF": 39}
+CAPABILITIES = {"CAP_SYS_PTRACE": 19, "CAP_SYS_ADMIN": 21, "CAP_PERFMON": 38, "CAP_BPF": 39}
 FLAGS, SIZE, RESIDENT, FIELDS = 6, 20, 21, 49  # places of fields of /proc/PID/stat after the name, and how many there are
 FOLDER = os.O_RDONLY | os.O_DIRECTORY | os.O_NOFOLLOW | os.O_CLOEXEC
 KERNFS_HANDLE = 0xFE  # include/linux/exportfs.h: FILEID_KERNFS
+
+ENDED = (FileNotFoundError, ProcessLookupError)  # errors by which a process has ended
 
 
 class Unreadable(Exception):
     """A text of /proc that doesn't have the kernel's form."""
 
 
-def path_of(process: int, name: str) -> str:
-    """Returns the path of a file of a process."""
-    return f"{ROOT}/{process}/{name}"
-
-
 def read_file(process: int, name: str) -> bytes:
     """Returns all bytes of a file of a process. OSError where it can't be read."""
-    return read_bytes(path_of(process, name))
+    return read_bytes(f"{ROOT}/{process}/{name}")
 
 
 def machine_huge() -> int:
@@ -49,13 +46,8 @@ def name_of(process: int) -> str:
     try:
         name = read_file(process, "comm")
     except OSError as error:
-        return "ended" if is_ended(error) else "?"
+        return "ended" if isinstance(error, ENDED) else "?"
     return escape(name[:-1] if name.endswith(b"\n") else name) or "?"
-
-
-def is_ended(error: Exception) -> bool:
-    """Returns whether an error means that the process has ended."""
-    return isinstance(error, (FileNotFoundError, ProcessLookupError))
 
 
 def is_own(error: Exception) -> bool:
@@ -71,11 +63,10 @@ def describe(process: int, why: Exception) -> str:
 
 
 def stat_fields(process: int) -> list[bytes]:
-    """Returns the fields of /proc/PID/stat after the name, the state first; none where the process has ended. Unreadable where
-    they aren't the kernel's."""
+    """Returns the fields of /proc/PID/stat after the name, the state first; none where the process has ended."""
     try:
         fields = read_file(process, "stat").rpartition(b")")[2].split()
-    except (FileNotFoundError, ProcessLookupError):
+    except ENDED:
         return []
     if len(fields) < FIELDS or not all(fields[place].isdigit() for place in (FLAGS, SIZE, RESIDENT)):
         raise Unreadable("its stat doesn't have the kernel's form")
@@ -95,8 +86,7 @@ def missing_capabilities(*names: str) -> list[str]:
 
 
 def folders_below(path: str) -> Iterator[int]:
-    """Yields an open descriptor of a folder, and of each folder below it, however deep. One that ended has none. OSError where
-    one can't be read."""
+    """Yields a descriptor of a folder, and of each below it, however deep, that hasn't ended. OSError where one can't be read."""
     try:
         here = os.open(path, FOLDER)
     except FileNotFoundError:
@@ -133,24 +123,21 @@ def list_folders(folder: int) -> list[str]:
 
 
 def members(path: str) -> list[int]:
-    """Returns the processes of a control group and of those below it; 0 (a process of another namespace) isn't one. OSError
-    where a group can't be read."""
-    out: list[int] = []
+    """Returns the processes of a control group and of those below it that this namespace has. OSError where one can't be read."""
+    out: set[int] = set()
     for folder in folders_below(path):
         try:
             with open(os.open("cgroup.procs", os.O_RDONLY | os.O_CLOEXEC, dir_fd=folder), "rb", 0) as file:
-                data = file.read()
-        except OSError as error:
+                out.update(int(line) for line in lines(file.read()) if re.fullmatch(rb"[0-9]{1,10}", line))
+        except OSError as error:  # a group that ended, or is threaded: its processes are in the list of the group above
             if error.errno not in (errno.ENOENT, errno.ENODEV, errno.EOPNOTSUPP):
                 raise
-            continue  # it ended, or is threaded: its processes are in the list of the group above
-        out += [int(line) for line in lines(data) if re.fullmatch(rb"[0-9]{1,10}", line)]
-    return [number for number in out if number > 0]
+    return sorted(out - {0})
 
 
 def group_names(mount: str, wanted: Iterable[int]) -> dict[int, str]:
-    """Returns the names of control groups below a mount by the inodes of their folders, escaped. The kernel opens a folder of
-    cgroupfs by its inode (CAP_DAC_READ_SEARCH). Groups that ended, or can't be opened so, have no name."""
+    """Returns the names, escaped, of control groups below a mount by their inodes, by which the kernel opens folders of cgroupfs
+    (CAP_DAC_READ_SEARCH). Groups that ended, or can't be opened so, have no name."""
     library, out = ctypes.CDLL(None), {}
     top = os.open(mount, FOLDER)
     try:

@@ -6,15 +6,16 @@ kpagecount and kpagecgroup. second_look.py reads again what has changed meanwhil
 
 from __future__ import annotations
 
+import ctypes
 import os
 import time
 from array import array
 from bisect import bisect_right
 from collections import Counter, defaultdict, deque
-from typing import Deque, Iterable, Iterator
+from contextlib import contextmanager
+from typing import Callable, Deque, Iterable, Iterator, Sequence
 
 from . import proc
-from .contents import Contents, Progress
 from .files import BASE
 from .folios import Folio, Mapping, compact_counts
 from .kernel_memory import KernelMemory
@@ -22,14 +23,16 @@ from .page_files import NumberFile, PageFlag, TooShort
 from .proc import Unreadable, describe
 from .spaces import Space, find_spaces
 from .subpages import bits_of
-from .workers import MOST_SPANS, PIECE, Answer, Request, Workers
+from .workers import CONTENT, MOST_SPANS, PIECE, Answer, Request, Workers, load_library
+
+Progress = Callable[[str, int, int], None]  # what is done, how many of how many
+Look = Callable[[list[Folio]], list[Folio]]  # fills in what kernel memory has of pages; returns those that are no longer in use
 
 PARTS_MOVED = "parts of huge pages that changed while they were read"
 SMALL = "huge pages below PMD size (--orders has them)"
 FREED = "huge pages that were freed while they were read"
 HIDDEN = "huge pages whose content couldn't be read"
-MLOCKED, POISONED = int(PageFlag.MLOCKED), int(PageFlag.HWPOISON)
-SWAP_CACHE, SWAP_BACKED = int(PageFlag.SWAPCACHE), int(PageFlag.SWAPBACKED)
+BATCH = 1024  # huge pages whose content is read at a time
 MEMORY = 512  # MiB that a look keeps at most, if no other limit is given
 PIECE_COST, FOLIO_COST = 400, 2600  # bytes of a mapping and of a huge page, with all that is made of them
 
@@ -40,9 +43,6 @@ class Spans:
     def __init__(self, pairs: bytes) -> None:
         numbers = array("Q", pairs)
         self.lows, self.highs = numbers[::2], numbers[1::2]
-
-    def __len__(self) -> int:
-        return len(self.lows)
 
     def subpages(self, address: int, size: int) -> int:
         """Returns the set of those of `size` subpages from an address on that lie in these areas."""
@@ -57,32 +57,31 @@ class Spans:
 
 
 class Reader:
-    """Reads the huge pages of processes, and what the kernel's files of pages have of them."""
+    """Reads the huge pages of processes, and what the kernel has of them. `memory`: MiB that are kept at most."""
 
     def __init__(
         self,
         kernel: KernelMemory,
         with_small: bool = False,
         threads: int = 0,
-        progress: Progress | None = None,
+        progress: Progress = lambda what, done, of: None,
         memory: int = MEMORY,
+        look: Look = lambda folios: [],
     ) -> None:
-        threads = threads or min(4, os.cpu_count() or 1)
-        self._progress = progress or (lambda what, done, of: None)
+        self._kernel, self._program, self._look = kernel, kernel.program("find_zeros"), look
+        self._threads, self._progress = threads or min(4, os.cpu_count() or 1), progress
         self._memory, self._used = memory << 20, 0
         self._files = [NumberFile(f"/proc/kpage{name}") for name in ("flags", "count")]
         if os.path.exists("/proc/kpagecgroup"):  # else a kernel without memory control groups: all pages are in one node
             self._files.append(NumberFile("/proc/kpagecgroup"))
         self._most = self._memory // (PIECE_COST + FOLIO_COST)
-        self._workers = Workers(self._files[0].descriptor, kernel.tables(), threads, self._most, with_small)
-        self.contents = Contents(kernel, threads, self._progress)
+        self._workers = Workers(self._files[0].descriptor, kernel.tables(), self._threads, self._most, with_small)
         self.spaces: dict[int, Space] = {}  # by process
         self.walked: dict[int, bytes] = {}  # the pieces of each process that has any
         self._locked: dict[int, Spans] = {}  # by process
         self.folios: dict[int, Folio] = {}  # by frame
         self.left_out: Counter[str] = Counter()
         self.unread: Counter[str] = Counter()
-        self.notes: list[str] = []  # what can't be known here
         self.looked_at = 0  # processes with memory
         self.is_limited = False  # by memory: not all pages are kept
         self.denied: set[int] = set()  # processes that may not be read
@@ -91,17 +90,20 @@ class Reader:
         self.spent: dict[str, float] = defaultdict(float)  # seconds by step
 
     def close(self) -> None:
-        """Ends what is still being read, and closes the kernel's files."""
+        """Ends the workers, and closes the kernel's files."""
         self._workers.close()
-        self.contents.close()
         for file in self._files:
             file.close()
-        self._files = []
+
+    @contextmanager
+    def timed(self, step: str) -> Iterator[None]:
+        """Adds what is done in the `with` to the time of a step."""
+        began = time.monotonic()
+        yield
+        self.spent[step] += time.monotonic() - began
 
     def answers(self, todo: Deque[Request]) -> Iterator[tuple[Request, Answer]]:
-        """Yields requests with what workers have read. A process that can't be read is counted; one that has ended maps
-        nothing."""
-        todo = deque(request._replace(thread=self.spaces[request.process].thread.number) for request in todo)
+        """Yields requests with what workers have read. Processes that can't be read are counted; ended ones map nothing."""
         for request, answer in self._workers.ask(todo):
             error = error_of(answer)
             if not error:
@@ -109,7 +111,7 @@ class Reader:
                 continue
             try:
                 space = self.spaces[request.process]
-                if not proc.is_ended(error):
+                if not isinstance(error, proc.ENDED):
                     raise error
                 if space.is_alive():
                     todo.append(request._replace(thread=space.thread.number))
@@ -122,14 +124,13 @@ class Reader:
 
     def read_processes(self, processes: Iterable[int]) -> None:
         """Reads what processes map."""
-        began = time.monotonic()
-        spaces, self.notes = find_spaces(processes, self._workers, self.unread)
-        self.looked_at = sum(1 + len(space.others) for space in spaces)
-        self.spaces = {space.process: space for space in spaces}
-        for done, (request, answer) in enumerate(self.answers(deque(space.request() for space in spaces)), 1):
-            self._add(request.process, answer)
-            self._progress("walking page tables", done, len(spaces))
-        self.spent["walk"] += time.monotonic() - began
+        with self.timed("walk"):
+            spaces = find_spaces(processes, self._workers, self.unread)
+            self.looked_at = sum(len(space.sharing) for space in spaces)
+            self.spaces = {space.process: space for space in spaces}
+            for done, (request, answer) in enumerate(self.answers(deque(space.request() for space in spaces)), 1):
+                self._add(request.process, answer)
+                self._progress("walking page tables", done, len(spaces))
 
     def request_again(self, process: int) -> Request:
         """Returns the request to look again at what a process maps: at all of it where a worker has no room for both."""
@@ -153,11 +154,8 @@ class Reader:
         self.others += answer.others
         beyond = f"parts of huge pages beyond the limit of memory (--memory {self._memory >> 20})"
         self.is_limited |= lost > 0
-        for counter, why, count in (
-            (self.left_out, PARTS_MOVED, answer.changed), (self.left_out, SMALL, answer.small), (self.unread, beyond, lost),
-        ):
-            if count:
-                counter[why] += count
+        self.left_out += Counter({PARTS_MOVED: answer.changed, SMALL: answer.small})
+        self.unread += Counter({beyond: lost})
 
     def take(
         self, address: int, head: int, flags: int, process: int, order: int, by_pmd: int, _: int, raw: bytes
@@ -166,41 +164,56 @@ class Reader:
         folio = self.folios.get(head)
         if folio is None or folio.order != order:
             folio = self.folios[head] = Folio(head, order)
-        folio.is_locked = bool(flags & MLOCKED)
-        folio.is_poisoned = bool(flags & POISONED)
-        folio.is_swap_cached = bool(flags & SWAP_CACHE)
-        folio.is_lazily_freed = not flags & SWAP_BACKED
+        folio.is_locked = bool(flags & PageFlag.MLOCKED)
+        folio.is_poisoned = bool(flags & PageFlag.HWPOISON)
+        folio.is_swap_cached = bool(flags & PageFlag.SWAPCACHE)
+        folio.is_lazily_freed = not flags & PageFlag.SWAPBACKED
         subset = int.from_bytes(raw, "little")
         folio.mappings.append(Mapping(process, address, folio.full if subset == folio.full else subset, bool(by_pmd)))
 
-    def read_groups(self, folios: Iterable[Folio]) -> list[Folio]:
-        """Reads the pages' control groups. Returns pages whose memory was taken from the machine."""
-        began, gone = time.monotonic(), []
-        for folio in folios if len(self._files) > 2 else ():
-            try:
-                folio.cgroup = self._files[2].at(folio.frame, 1)[0]
-            except TooShort:
-                gone.append(folio)
-        self.spent["groups"] += time.monotonic() - began
-        return gone
+    def read_all(self) -> None:
+        """Reads what else there is of the pages that processes map, and leaves out those that are no longer in use."""
+        folios = list(self.folios.values())
+        gone = self.read_pages(folios)
+        self.read_contents(folios)
+        for frame in gone:
+            self.leave_out(self.folios[frame], FREED)
 
-    def read_counts(self, folios: Iterable[Folio]) -> list[Folio]:
-        """Reads map counts of each subpage by all processes, where they aren't known yet. Returns pages whose memory was taken
-        from the machine."""
-        began, gone = time.monotonic(), []
-        for folio in (folio for folio in folios if not folio.totals):
-            try:
-                folio.totals = compact_counts(self._files[1].at(folio.frame, folio.size))
-            except TooShort:
-                gone.append(folio)
-        self.spent["counts"] += time.monotonic() - began
-        return gone
+    def read_pages(self, folios: list[Folio]) -> set[int]:
+        """Reads control groups of pages, what kernel memory has of them, and map counts that aren't known by that. Returns the
+        frames of those that are no longer in use, or whose memory was taken from the machine."""
+        with self.timed("groups"):
+            for folio in folios if len(self._files) > 2 else ():
+                folio.cgroup = sum(self._numbers(2, folio, 1))
+        with self.timed("queues"):
+            gone = self._look(folios)
+        with self.timed("counts"):
+            for folio in folios:
+                folio.totals = folio.totals or compact_counts(self._numbers(1, folio, folio.size))
+        return {folio.frame for folio in gone} | {folio.frame for folio in folios if not folio.totals}
 
-    def read_contents(self) -> None:
-        """Reads which subpages are zero-filled, of all pages."""
-        began = time.monotonic()
-        self.contents.read(list(self.folios.values()))
-        self.spent["content"] += time.monotonic() - began
+    def _numbers(self, file: int, folio: Folio, count: int) -> Sequence[int]:
+        """Returns numbers of a page from a file of the kernel; none where its memory was taken from the machine."""
+        try:
+            return self._files[file].at(folio.frame, count)
+        except TooShort:
+            return ()
+
+    def read_contents(self, folios: list[Folio]) -> None:
+        """Reads which subpages are zero-filled, by the kernel's own map of memory, in threads: whole, whoever maps the page, and
+        it counts as no access. What can't be read isn't `known`."""
+        with self.timed("content"):
+            for first in range(0, len(folios), BATCH):
+                batch = folios[first : first + BATCH]
+                pages = (CONTENT.pack(self._kernel.content_of(folio.frame), folio.size, b"", b"") for folio in batch)
+                raw = bytearray().join(pages)
+                room = (ctypes.c_char * len(raw)).from_buffer(raw)
+                load_library().scan_frames(self._program, ctypes.addressof(room), len(batch), self._threads)
+                for folio, (_, _, read, zero) in zip(batch, CONTENT.iter_unpack(raw)):
+                    known = int.from_bytes(read, "little")
+                    folio.known = folio.full if known == folio.full else known  # one object for all pages
+                    folio.zero = int.from_bytes(zero, "little") & known
+                self._progress("reading content", first + len(batch), len(folios))
 
     def keep_locked(self, folios: Iterable[Folio]) -> None:
         """Finds which subpages of pages locked areas keep."""

@@ -6,10 +6,8 @@ has changed; the second reading then counts.
 
 from __future__ import annotations
 
-import time
 from collections import deque
 from dataclasses import dataclass, replace
-from typing import Callable
 
 from .folios import Folio, Mapping
 from .reader import FREED, Reader
@@ -20,8 +18,6 @@ SAMPLE = 64  # huge pages whose content is read twice
 MOST_AGAIN = 1 << 16  # huge pages that are read a second time
 BATCH = 1024  # huge pages that are compared at a time
 COMPARED = ("totals", "whole", "is_queued", "is_partly", "cgroup")  # by `_count`
-
-Look = Callable[[list[Folio]], list[Folio]]  # fills in queue state; returns the pages that are no longer in use
 
 
 @dataclass
@@ -34,25 +30,25 @@ class Changes:
 
 
 class SecondLook:
-    """The second look of a reader. `look`: see Look."""
+    """The second look of a reader."""
 
-    def __init__(self, reader: Reader, look: Look = lambda folios: []) -> None:
-        self._reader, self._look = reader, look
+    def __init__(self, reader: Reader) -> None:
+        self._reader = reader
         self._first: dict[int, Folio | None] = {}  # pages that differ, as they were read first, by frame
 
     def take(self) -> Changes:
         """Reads pages again, and has the reader's pages be those of the second reading."""
-        reader, began = self._reader, time.monotonic()
-        self._walk()
-        self._count()
-        changed = [reader.folios[frame] for frame in sorted(self._first) if frame in reader.folios]
-        for folio in changed[MOST_AGAIN:] + [folio for folio in changed[:MOST_AGAIN] if not reconcile(folio)]:
-            self._leave_out(folio, MOVED)
-        reader.contents.read([folio for folio in changed if folio.frame in self._first])
-        sampled = self._sample()
-        pairs = [(before, reader.folios.get(frame)) for frame, before in sorted(self._first.items())]
-        reader.keep_locked([before for before, _ in pairs if before] + list(reader.folios.values()))
-        reader.spent["second look"] += time.monotonic() - began
+        reader = self._reader
+        with reader.timed("second look"):
+            self._walk()
+            self._count()
+            changed = [reader.folios[frame] for frame in sorted(self._first) if frame in reader.folios]
+            for folio in changed[MOST_AGAIN:] + [folio for folio in changed[:MOST_AGAIN] if not reconcile(folio)]:
+                self._leave_out(folio, MOVED)
+            reader.read_contents([folio for folio in changed if folio.frame in self._first])
+            sampled = self._sample()
+            pairs = [(before, reader.folios.get(frame)) for frame, before in sorted(self._first.items())]
+            reader.keep_locked([before for before, _ in pairs if before] + list(reader.folios.values()))
         return Changes(pairs, len(sampled), sum(frame in self._first for frame in sampled))
 
     def _leave_out(self, folio: Folio, why: str) -> None:
@@ -95,7 +91,7 @@ class SecondLook:
         for first in range(0, len(todo), BATCH):
             batch = todo[first : first + BATCH]
             again = [folio if folio.frame in self._first else blank(folio, folio.mappings) for folio in batch]
-            gone = {folio.frame for folio in reader.read_groups(again) + self._look(again) + reader.read_counts(again)}
+            gone = reader.read_pages(again)
             for before, now in zip(batch, again):
                 if now.frame in gone:
                     self._leave_out(before, FREED)
@@ -108,7 +104,7 @@ class SecondLook:
         frames = sorted(folios)
         some = frames[:: max(1, len(frames) // SAMPLE)]
         again = [replace(folios[frame], zero=0, known=0) for frame in some if frame not in self._first]
-        self._reader.contents.read(again)
+        self._reader.read_contents(again)
         for now in again:
             before = folios[now.frame]
             if (before.zero ^ now.zero) & before.known & now.known:

@@ -1,7 +1,7 @@
 """Address spaces: which processes share one, and by which thread each is read.
 
-Processes share an address space after clone(CLONE_VM), and between vfork and exec: kcmp(2) finds them. A process whose first
-thread has ended has no memory under /proc/PID, but under the numbers of its other threads.
+Processes share an address space after clone(CLONE_VM), and between vfork and exec: they have one highest page table. A process
+whose first thread has ended has no memory under /proc/PID, but under the numbers of its other threads.
 """
 
 from __future__ import annotations
@@ -14,14 +14,13 @@ from dataclasses import dataclass
 from typing import Iterable, NamedTuple
 
 from . import proc
-from .proc import FLAGS, RESIDENT, SIZE, Unreadable, stat_fields
-from .workers import COMPARE, PIECE, SECONDS, WALK, Request, Workers
+from .proc import ENDED, FLAGS, RESIDENT, SIZE, Unreadable, stat_fields
+from .workers import FIND_TABLES, SECONDS, WALK, Request, Workers
 
-COUNTED_EACH = "processes that share an address space are counted each: "
 KTHREAD = 0x200000  # include/linux/sched.h: PF_KTHREAD, a thread of the kernel
 MANY = 1 << 18  # base pages, a GiB
 SECONDS_A_PAGE = 0.1 / MANY  # that a walk may take longer
-SECONDS_A_PROCESS = 1e-4  # that a comparison may take longer
+SECONDS_A_PROCESS = 1e-4  # that a search for its page table may take longer
 TRIES = 3  # threads of an address space that end while it is read
 
 
@@ -35,21 +34,20 @@ class Thread(NamedTuple):
 
 @dataclass
 class Space:
-    """An address space, which belongs to the lowest of the processes that were asked for. `others` share it."""
+    """An address space, which belongs to the lowest of the processes that were asked for."""
 
     process: int
     thread: Thread
-    others: list[int]
+    sharing: list[int]  # all its processes
     tries: int = 0
 
     def request(self, pieces: bytes = b"") -> Request:
         """Returns the request to walk it, or to look at some pieces again."""
-        seconds = SECONDS + SECONDS_A_PAGE * self.thread.pages
-        return Request(self.process, WALK, seconds, len(pieces) // PIECE.size, pieces)
+        return Request(self.process, WALK, SECONDS + SECONDS_A_PAGE * self.thread.pages, pieces, self.thread.number)
 
     def is_alive(self) -> bool:
         """Returns whether it has a thread that lives, after the one that was used has ended."""
-        found = next(filter(None, map(live_thread, [self.process, *self.others])), None)
+        found = next(filter(None, map(live_thread, self.sharing)), None)
         self.tries += 1
         if found and self.tries > TRIES:
             raise Unreadable("its threads end all the time")
@@ -58,14 +56,13 @@ class Space:
 
 
 def live_thread(process: int) -> Thread | None:
-    """Returns a thread of a process that has memory; None for a thread of the kernel, and a process that has ended. OSError or
-    Unreadable where that can't be found."""
+    """Returns a thread of a process that has memory; None for a thread of the kernel, and a process that has ended."""
     fields = stat_fields(process)
     if not fields or fields[SIZE] != b"0" or int(fields[FLAGS]) & KTHREAD:
         return thread_of(process, fields)
     try:
-        tasks = os.listdir(proc.path_of(process, "task"))
-    except (FileNotFoundError, ProcessLookupError):
+        tasks = os.listdir(f"{proc.ROOT}/{process}/task")
+    except ENDED:
         return None
     return next(filter(None, (thread_of(int(task), stat_fields(int(task))) for task in tasks)), None)
 
@@ -76,15 +73,14 @@ def thread_of(number: int, fields: list[bytes]) -> Thread | None:
         return None
     pages = int(fields[RESIDENT])
     if pages > MANY:
-        with suppress(FileNotFoundError, ProcessLookupError):  # it ended
+        with suppress(*ENDED):  # it ended
             resident, shared = proc.read_file(number, "statm").split()[1:3]
             pages = int(resident) - int(shared)
     return Thread(number, max(0, pages), (*fields[23:26], *fields[42:49]))
 
 
-def find_spaces(processes: Iterable[int], workers: Workers, unread: Counter[str]) -> tuple[list[Space], list[str]]:
-    """Returns the address spaces of processes, and a note where they can't be known. Processes without memory have none;
-    those that can't be read are counted."""
+def find_spaces(processes: Iterable[int], workers: Workers, unread: Counter[str]) -> list[Space]:
+    """Returns the address spaces of processes. Processes without memory have none; those that can't be read are counted."""
     threads: dict[int, Thread] = {}
     alike: dict[tuple[bytes, ...], list[int]] = defaultdict(list)
     for process in sorted(processes):
@@ -96,26 +92,13 @@ def find_spaces(processes: Iterable[int], workers: Workers, unread: Counter[str]
         if thread:
             threads[process] = thread
             alike[thread.key].append(process)
-    groups = {group[0]: group for group in alike.values() if len(group) > 1}
-    first = {process: process for process in threads}
-    notes: list[str] = []
-    for request, answer in workers.ask(deque(compare_request(group, threads) for group in groups.values())):
-        if answer and answer.found < 0:
-            notes = [f"{COUNTED_EACH}kcmp can't be used: {os.strerror(-answer.found)}"]
-        elif answer:  # else they are walked each, and wait so
-            group = groups[request.process]
-            number_of = {threads[process].number: process for process in group}
-            first.update(zip(group, (number_of[number] for number in array("i", answer.data))))
-    if groups and proc.missing_capabilities("CAP_SYS_PTRACE"):
-        notes = [f"{COUNTED_EACH}CAP_SYS_PTRACE is missing"]
-    spaces = {process: Space(process, thread, []) for process, thread in threads.items() if first[process] == process}
-    for process, lowest in first.items():
-        if process != lowest:
-            spaces[lowest].others.append(process)
-    return list(spaces.values()), notes
-
-
-def compare_request(group: list[int], threads: dict[int, Thread]) -> Request:
-    """Returns the request to find which of these processes share an address space."""
-    numbers = array("i", (threads[process].number for process in group))
-    return Request(group[0], COMPARE, SECONDS + SECONDS_A_PROCESS * len(group), len(group), numbers.tobytes())
+    groups = {group[0]: array("Q", (threads[process].number for process in group)) for group in alike.values() if group[1:]}
+    todo = deque(Request(process, FIND_TABLES, SECONDS + SECONDS_A_PROCESS * len(group), group.tobytes())
+                 for process, group in groups.items())
+    tables: dict[int, int] = {}
+    for request, answer in workers.ask(todo):
+        tables.update(zip(alike[threads[request.process].key], array("Q", answer.data if answer else b"")))
+    spaces: dict[int, Space] = {}
+    for process, thread in threads.items():  # those whose table isn't found are walked each
+        spaces.setdefault(tables.get(process) or -process, Space(process, thread, [])).sharing.append(process)
+    return list(spaces.values())

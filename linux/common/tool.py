@@ -6,7 +6,7 @@ import ctypes
 import os
 import signal
 import sys
-from typing import Callable, NoReturn, Optional
+from typing import Callable, NoReturn
 
 from .errors import end_by_signals, status_of
 from .keeper import recover
@@ -28,24 +28,12 @@ def open_standard_streams() -> None:
         sys.stdin = open(os.devnull, encoding="utf-8")
 
 
-def keep_memory_secret() -> None:
-    """Has the kernel write no core file of a tool that runs as root: it may have read other users' memory."""
-    if os.geteuid() == 0:
-        ctypes.CDLL(None).prctl(PR_SET_DUMPABLE, 0, 0, 0, 0)
-
-
-def heed_interrupts() -> None:
-    """Has SIGINT raise KeyboardInterrupt; until then it ends the tool at once. A shell's background job ignores it."""
-    if signal.getsignal(signal.SIGINT) == signal.SIG_DFL:
-        signal.signal(signal.SIGINT, signal.default_int_handler)
-
-
 def write_nothing_more() -> None:
     """Redirects standard output to /dev/null, since it can't be written."""
     os.dup2(os.open(os.devnull, os.O_WRONLY), sys.stdout.fileno())
 
 
-def run_tool(name: str, main: Callable[[], int], on_error: Optional[int] = None) -> NoReturn:
+def run_tool(name: str, main: Callable[[], int], on_error: int | None = None) -> NoReturn:
     """Runs a tool's main function and ends with its status. Every error is one line on standard error: 77 where the
     machine lacks something, 2 for words and texts, 75 where another tool runs, 3 for the rest. What an earlier run left that
     was killed with its guardian is put back first. `on_error`: the status of every error, where callers need another."""
@@ -55,8 +43,10 @@ def run_tool(name: str, main: Callable[[], int], on_error: Optional[int] = None)
         return status if on_error is None or status > 128 else on_error
 
     open_standard_streams()
-    keep_memory_secret()
-    heed_interrupts()
+    if os.geteuid() == 0:  # no core file: it may have read other users' memory
+        ctypes.CDLL(None).prctl(PR_SET_DUMPABLE, 0, 0, 0, 0)
+    if signal.getsignal(signal.SIGINT) == signal.SIG_DFL:  # until here it ends the tool at once; a shell's background job ignores it
+        signal.signal(signal.SIGINT, signal.default_int_handler)
     end_by_signals()
     try:
         for line in recover(name):

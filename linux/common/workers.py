@@ -33,12 +33,12 @@ MOST_SPANS = 1 << 18  # locked areas of a process
 MAP_NORESERVE = 0x4000
 LEAST_ROOM = 1 << 24  # bytes for pieces and what else is read
 KNOWN = 8 << 18  # bytes that pages.c has for blocks of frames
-WALK, COMPARE = range(2)  # what a request asks for
+WALK, FIND_TABLES = range(2)  # what a request asks for
 
 PIECE = struct.Struct("<QQQIIII64s")  # struct piece of pages.c
 CONTENT = struct.Struct("<QQ64s64s")  # struct content
 REQUEST, REPLY = struct.Struct("<iiiiqq"), struct.Struct("<6q")
-UNITS = {WALK: PIECE.size, COMPARE: 4}  # bytes of what an answer has `found` of
+UNITS = PIECE.size, 8  # bytes of what a request has, and an answer has `found` of
 
 
 @lru_cache(maxsize=None)
@@ -47,18 +47,15 @@ def load_library() -> ctypes.CDLL:
     library = ctypes.CDLL(helper("pages.so"))
     number, long, pointer = ctypes.c_int, ctypes.c_long, ctypes.c_void_p
     library.start_worker.argtypes = [pointer, number, pointer]
-    library.find_locked.argtypes = [number, pointer, long]
-    library.find_locked.restype = long
+    library.find_locked.argtypes, library.find_locked.restype = [number, pointer, long], long
     library.scan_frames.argtypes = [number, pointer, long, number]
     return library
 
 
-class Room:
-    """Memory that is shared with workers, and takes none until it is filled."""
-
-    def __init__(self, size: int) -> None:
-        self.memory = mmap.mmap(-1, size, flags=mmap.MAP_SHARED | mmap.MAP_ANONYMOUS | MAP_NORESERVE)
-        self.address = ctypes.addressof(ctypes.c_char.from_buffer(self.memory))
+def new_room(size: int) -> tuple[mmap.mmap, int]:
+    """Returns memory that is shared with workers, and takes none until it is filled, and its address."""
+    memory = mmap.mmap(-1, size, flags=mmap.MAP_SHARED | mmap.MAP_ANONYMOUS | MAP_NORESERVE)
+    return memory, ctypes.addressof(ctypes.c_char.from_buffer(memory))
 
 
 class Request(NamedTuple):
@@ -67,9 +64,7 @@ class Request(NamedTuple):
     process: int
     what: int
     seconds: float = SECONDS
-    entries: int = 0  # of `data`
-    data: bytes = b""
-    tag: int = 0  # the caller's own
+    data: bytes = b""  # pieces to look at again, or numbers of threads
     thread: int = 0  # by which its memory is read: one that lives
 
 
@@ -89,11 +84,10 @@ class Answer(NamedTuple):
 class Worker:
     """One worker process. OSError where none can be started."""
 
-    def __init__(self, flags: int, known: Room, most: int, tables: Tables, place: int) -> None:
+    def __init__(self, flags: int, known: int, most: int, tables: Tables, place: int) -> None:
         self._most, self._size = most, max(most * PIECE.size, LEAST_ROOM)
-        self._room = Room(self._size + 16 * MOST_SPANS)
-        at = self._room.address
-        words = struct.pack("<QQQqqiiQQqq", at, at + self._size, known.address, most, MOST_SPANS, *tables, place)
+        self._memory, at = new_room(self._size + 16 * MOST_SPANS)
+        words = struct.pack("<QQQqqiiQQqq", at, at + self._size, known, most, MOST_SPANS, *tables, place)
         ends = (ctypes.c_int * 3)()
         error = load_library().start_worker(words, flags, ends)
         if error:
@@ -107,9 +101,10 @@ class Worker:
 
     def begin(self, request: Request, with_small: bool, most: int) -> None:
         """Begins a request."""
-        place = (self._most - request.entries) * PIECE.size if request.what == WALK else 0
-        self._room.memory[place : place + len(request.data)] = request.data
-        words = (request.what, request.thread, request.process, with_small, min(most, self._most), request.entries)
+        count = len(request.data) // UNITS[request.what]
+        place = (self._most - count) * PIECE.size if request.what == WALK else 0
+        self._memory[place : place + len(request.data)] = request.data
+        words = (request.what, request.thread, request.process, with_small, min(most, self._most), count)
         self.request, self.until = request, time.monotonic() + self.limit
         self.last, self._ran = self.until + PATIENCE * self.limit, None
         with suppress(OSError):  # it was killed: `end` then finds no answer
@@ -139,10 +134,10 @@ class Worker:
             numbers = REPLY.unpack(os.read(self.socket, REPLY.size))
         except (OSError, struct.error):
             return None
-        found, spans, memory = numbers[0], min(numbers[5], MOST_SPANS), self._room.memory
-        data = memory[: max(0, found) * UNITS[self.request.what]]
-        locked = memory[self._size : self._size + 16 * max(0, spans)]
-        return Answer(*numbers)._replace(data=data, locked=locked)
+        answer = Answer(*numbers)
+        data = self._memory[: max(0, answer.found) * UNITS[self.request.what]]
+        locked = self._memory[self._size : self._size + 16 * max(0, min(answer.spans, MOST_SPANS))]
+        return answer._replace(data=data, locked=locked)
 
     def kill(self) -> None:
         """Kills it, without waiting for that."""
@@ -152,11 +147,9 @@ class Worker:
 
     def is_gone(self) -> bool:
         """Returns whether it was killed and has ended; closes what is left of it then."""
-        try:
+        with suppress(ChildProcessError):  # where SIGCHLD is ignored, nothing is left of it
             if not os.waitid(os.P_PIDFD, self._handle, os.WEXITED | os.WNOHANG):
                 return False
-        except ChildProcessError:
-            pass
         os.close(self._handle)
         return True
 
@@ -166,7 +159,7 @@ class Workers:
 
     def __init__(self, flags: int, tables: Tables, count: int, most: int, with_small: bool = False) -> None:
         self._flags, self._tables, self._count, self._with_small = flags, tables, count, with_small
-        self._known, self._poll = Room(KNOWN), select.poll()
+        self._known, self._poll = new_room(KNOWN), select.poll()
         self._idle: list[Worker] = []
         self._busy: dict[int, Worker] = {}  # by socket
         self._killed: list[Worker] = []
@@ -175,8 +168,7 @@ class Workers:
         self._waited: Counter[int] = Counter()  # readings that weren't done in time, by user
 
     def ask(self, todo: Deque[Request]) -> Iterator[tuple[Request, Answer | None]]:
-        """Yields each request with its answer, or None where it wasn't done in time, in any order. What is appended to `todo`
-        meanwhile is done, too."""
+        """Yields each request, also those appended meanwhile, with its answer, in any order; None: it wasn't done in time."""
         while todo or self._busy:
             while todo and self._begin(todo[0]):
                 todo.popleft()
@@ -193,8 +185,9 @@ class Workers:
                 self._busy.pop(worker.socket)
                 if answer:
                     self._idle.append(worker)
-                else:
-                    self._replace(worker)
+                else:  # its request isn't done
+                    self._waited[owner_of(request.process)] += 1
+                    self._kill(worker)
                 if todo and self._begin(todo[0]):
                     todo.popleft()
                 yield request, answer
@@ -208,7 +201,7 @@ class Workers:
                 return False
             place = next(iter(set(range(TABLES)) - {each.place for each in self._busy.values()}))
             try:
-                self._idle.append(Worker(self._flags, self._known, self._room, self._tables, place))
+                self._idle.append(Worker(self._flags, self._known[1], self._room, self._tables, place))
             except OSError:
                 if not self._busy:
                     raise
@@ -222,9 +215,8 @@ class Workers:
         self._busy[worker.socket] = worker
         return True
 
-    def _replace(self, worker: Worker) -> None:
-        """Kills a worker whose request isn't done; another one is started at need."""
-        self._waited[owner_of(worker.request.process)] += 1
+    def _kill(self, worker: Worker) -> None:
+        """Kills a worker; another one is started at need."""
         self._poll.unregister(worker.socket)
         worker.kill()
         self._killed = [each for each in [*self._killed, worker] if not each.is_gone()]
@@ -232,14 +224,12 @@ class Workers:
     def close(self) -> None:
         """Kills all workers."""
         for worker in [*self._idle, *self._busy.values()]:
-            self._poll.unregister(worker.socket)
-            worker.kill()
-            self._killed.append(worker)
+            self._kill(worker)
         self._idle, self._busy = [], {}
         until = time.monotonic() + LEAST
         while self._killed and time.monotonic() < until:
+            time.sleep(0.0005)
             self._killed = [worker for worker in self._killed if not worker.is_gone()]
-            time.sleep(0.0005 if self._killed else 0)
 
 
 def owner_of(process: int) -> int:

@@ -90,11 +90,6 @@ class Commands:
                 if sent is signal.SIGKILL:
                     self._send(sent)
 
-    def disown(self) -> None:
-        """Notes that they have ended."""
-        for child in self._children:
-            self._keeper.disown(child.pid)
-
     def statuses(self) -> list[str]:
         """Returns how each of them ended."""
         out = []

@@ -38,9 +38,7 @@ class ContentLooks:
         reader = Reader(self._memory, min(self._orders) < PMD_ORDER, 1, memory=MOST_MEMORY)
         try:
             reader.read_processes(processes_of(path))
-            reader.read_groups(reader.folios.values())
-            reader.read_counts(reader.folios.values())
-            reader.read_contents()
+            reader.read_all()
             SecondLook(reader).take()
             now = time.monotonic_ns()
             for frame, folio in reader.folios.items():

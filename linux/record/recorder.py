@@ -173,7 +173,6 @@ class Recorder:
             finally:
                 over.set()
                 reclaimer.join()
-            running.disown()
             time.sleep(AFTER)
             taker.take()
         return why

@@ -2,6 +2,7 @@
 
 from __future__ import annotations
 
+import errno
 import os
 import signal
 import subprocess
@@ -186,8 +187,10 @@ class KeeperTest(unittest.TestCase):
         entries: list[Entry] = [{"file": str(self.folder / "setting"), "text": "former", "set": ""},
                                 {"group": str(self.folder / "group")}]
 
-        def refused(path: str, text: str) -> str:
-            return "busy" if (self.folder / "group").exists() else write(path, text)
+        def refused(path: str, text: str) -> None:
+            if (self.folder / "group").exists():
+                raise OSError(errno.EBUSY, "busy")
+            write(path, text)
 
         with mock.patch("linux.common.guardian.write", refused):
             self.assertEqual(put_back(entries, []), ([], []))

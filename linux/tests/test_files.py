@@ -15,7 +15,7 @@ from unittest import mock
 from ..common import helpers, user
 from ..common.arguments import OneLineParser, seconds, whole
 from ..common.errors import FAILED, INCONCLUSIVE, USAGE, InputFault, RunFailed, Unavailable, status_of
-from ..common.files import OwnFolder, create, read, read_input
+from ..common.files import NewFile, OwnFolder, read, read_input
 from ..common.groups import checked_group
 from ..common.program import start
 from ..common.text import escape, lines, text_lines
@@ -66,8 +66,9 @@ class FilesTest(unittest.TestCase):
 
     def test_a_new_file_is_its_owners_alone(self) -> None:
         os.umask(os.umask(0))
-        with create(self.folder / "new") as file:
-            file.write("text")
+        new = NewFile(self.folder / "new")
+        new.file.write("text")
+        new.close()
         self.assertEqual(stat.S_IMODE((self.folder / "new").stat().st_mode), 0o600)
 
     def test_what_exists_is_never_written(self) -> None:
@@ -79,7 +80,7 @@ class FilesTest(unittest.TestCase):
         os.mkfifo(self.folder / "pipe")
         for name in ("target", "link", "dangling", "hard", "pipe", ".", "no/where", "nul\0"):
             with self.assertRaises(InputFault, msg=name):
-                create(self.folder / name)
+                NewFile(self.folder / name)
         self.assertEqual((target.read_text(), (self.folder / "nothing").exists()), ("precious", False))
 
     def test_a_folder_is_the_callers_own(self) -> None:

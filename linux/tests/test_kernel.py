@@ -9,7 +9,7 @@ import unittest
 from pathlib import Path
 from unittest import mock
 
-from ..common import kernel_library, kernel_memory
+from ..common import kernel_library, kernel_memory, proc
 from ..common.errors import InputFault
 from ..record.options import parse_size
 from ..record.recorder import Recording, Taker
@@ -59,7 +59,7 @@ class MessageTest(unittest.TestCase):
 
     def test_rights_that_are_missing_are_named(self) -> None:
         for bits, wanted in ((0, ["CAP_BPF", "CAP_PERFMON"]), (1 << 39, ["CAP_PERFMON"]), (1 << 38, ["CAP_BPF"]), (1 << 21, [])):
-            with mock.patch("builtins.open", mock.mock_open(read_data=f"Name:\tx\nCapEff:\t{bits:016x}\n")):
+            with mock.patch.object(proc, "read_bytes", return_value=b"Name:\tx\nCapEff:\t%016x\n" % bits):
                 self.assertEqual(kernel_library.lacking_rights(), wanted)
 
     def test_nodes_with_memory_are_read_from_the_kernels_list(self) -> None:

@@ -1,5 +1,4 @@
-"""Readings of memory of our own: what is zero-filled, what can't be read, what changed. Workers that wait or die. Work without
-threads."""
+"""Readings of memory of our own: what is zero-filled, what can't be read, what changed. Workers that wait or die."""
 
 from __future__ import annotations
 
@@ -13,12 +12,10 @@ import time
 import unittest
 from array import array
 from collections import Counter, deque
-from concurrent.futures import ThreadPoolExecutor
 from typing import Any
 from unittest import mock
 
 from ..common import proc, spaces
-from ..common.contents import begin
 from ..common.errors import Unavailable
 from ..common.files import BASE
 from ..common.folios import Folio
@@ -51,9 +48,7 @@ class Changes(unittest.TestCase):
         self.reader = Reader(kernel(), threads=1)
         self.addCleanup(self.reader.close)
         self.reader.read_processes([os.getpid()])
-        self.reader.read_groups(self.reader.folios.values())
-        self.reader.read_counts(self.reader.folios.values())
-        self.reader.read_contents()
+        self.reader.read_all()
         places = {mapping.address: folio for folio in self.reader.folios.values() for mapping in folio.mappings}
         self.own = [places.get(at + self.first + number * HUGE) for number in range(4)]
         if None in self.own:
@@ -98,7 +93,7 @@ class Waiting(unittest.TestCase):
 
     def answered(self, count: int) -> Counter[bool]:
         """How many of some requests are answered, and how many aren't."""
-        todo = deque(Request(os.getpid(), WALK, tag=tag, thread=os.getpid()) for tag in range(count))
+        todo = deque(Request(os.getpid(), WALK, thread=os.getpid()) for _ in range(count))
         return Counter(answer is not None for _, answer in self.workers.ask(todo))
 
     def test_workers_that_are_stopped_are_replaced(self) -> None:
@@ -160,24 +155,15 @@ class Errors(unittest.TestCase):
         unread: Counter[str] = Counter()
         pool: Any = mock.Mock(ask=lambda todo: iter(()))
         with mock.patch.object(proc, "read_file", side_effect=PermissionError(13, "Permission denied")):
-            self.assertEqual(spaces.find_spaces([7], pool, unread), ([], []))
+            self.assertEqual(spaces.find_spaces([7], pool, unread), [])
         self.assertEqual(list(unread), ["process 7 (?): Permission denied"])
         with mock.patch.object(proc, "read_file", side_effect=OSError(24, "Too many open files")):
             self.assertRaises(OSError, spaces.find_spaces, [7], pool, unread)
 
-    def test_processes_are_counted_each_where_there_is_no_kcmp(self) -> None:
+    def test_processes_that_may_share_an_address_space_are_walked_each_where_it_is_not_known(self) -> None:
         fields = [b"S", *[b"1"] * 48]
-        pool: Any = mock.Mock(ask=lambda todo: ((request, Answer(-38)) for request in todo))
-        with mock.patch.object(spaces, "stat_fields", return_value=fields):
-            found, notes = spaces.find_spaces([7, 8], pool, Counter())
-        self.assertEqual([space.process for space in found], [7, 8])
-        self.assertRegex(notes[0], "^processes that share an address space are counted each: ")
-
-
-class Work(unittest.TestCase):
-    def test_work_is_done_where_no_thread_can_begin(self) -> None:
-        def refuse(*_: Any) -> None:
-            raise RuntimeError("can't start new thread")
-
-        with mock.patch("threading.Thread.start", refuse), ThreadPoolExecutor(1) as pool:
-            self.assertEqual(begin(pool, lambda: 5).result(), 5)
+        for data, wanted in (((5, 5, 0, 0), [7, 9, 10]), ((), [7, 8, 9, 10])):
+            pool: Any = mock.Mock(ask=lambda todo: ((request, Answer(4, data=array("Q", data).tobytes())) for request in todo))
+            with mock.patch.object(spaces, "stat_fields", return_value=fields):
+                found = spaces.find_spaces([7, 8, 9, 10], pool, Counter())
+            self.assertEqual([space.process for space in found], wanted)

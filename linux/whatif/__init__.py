@@ -1,6 +1,5 @@
 """How much memory would the shrinker of transparent huge pages free now? The program is thpwhatif (docs/WHATIF.md).
 
-    queues       what the kernel's own structures contain of huge pages, by BPF; linux/common/reader has all else of them
     look         which processes are looked at, and a look; snapshot: what it has read, and what was left out
     stored       stored snapshots, written, read back and checked
     page_plan    what decides what a split does with a huge page, and which pages can't be predicted

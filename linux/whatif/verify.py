@@ -186,7 +186,6 @@ class Bench:
                     stream.close()
         try:
             process.wait(END_TIME)
-            self.keeper.disown(process.pid)
         except subprocess.TimeoutExpired:
             has_ended = False
         if not has_ended:

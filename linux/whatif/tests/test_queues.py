@@ -5,7 +5,7 @@ from __future__ import annotations
 import unittest
 
 from ...common.folios import Folio
-from ..queues import keep_lasting_pins
+from ..look import keep_lasting_pins
 from .sample_folios import folio
 
 
