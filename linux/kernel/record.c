@@ -1,5 +1,5 @@
 // SPDX-License-Identifier: MIT OR GPL-2.0
-/* Loads the programs of a recording (record.bpf.c), and moves their records to a file, for linux/record/trace_programs.py. */
+/* Loads the programs of a recording (record.bpf.c), and moves their records to a file, for linux/record/recorder.py. */
 #include <errno.h>
 #include <stdlib.h>
 #include <string.h>

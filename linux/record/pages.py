@@ -5,7 +5,8 @@ from __future__ import annotations
 from dataclasses import dataclass, field
 
 from ..common.files import PMD_ORDER
-from ..common.subpages import bits_of, size
+from ..common.subpages import size
+from .lines import JournalLine
 
 
 @dataclass(eq=False)
@@ -13,20 +14,11 @@ class Mapping:
     """One address space's mapping of a page: where subpage 0 is, whether by a PMD entry, which subpages, and since when
     it is there."""
 
+    space: int
     base: int
     whole: bool
     bits: int
-    since: int = 0
-
-
-class JournalLine:
-    """The text of a page's event, with the recorder's number of the page, which differs from the journal's, and the time (ns)
-    of the record that showed it."""
-
-    __slots__ = ("page", "text", "time")
-
-    def __init__(self, page: int, text: str, time: int) -> None:
-        self.page, self.text, self.time = page, text, time
+    since: int
 
 
 class MapCounts:
@@ -72,9 +64,11 @@ class Page:
     number: int
     folio: int
     subpages: int
+    every: int  # all of them
+    held: int
+    born: int  # when its allocation was recorded
     own: MapCounts = field(default_factory=MapCounts)
     whole: int = 1
-    held: int = 0
     maps: dict[int, Mapping] = field(default_factory=dict)
     pins: int = 0
     is_partly_mapped: bool = False
@@ -85,7 +79,6 @@ class Page:
     is_freed: bool = False
     freed_frames: int = 0
     written: int = 0
-    born: int = 0  # when its allocation was recorded
     first: JournalLine | None = None  # its allocation
     is_seen: bool = False  # its contents were looked at
     is_tried: bool = False  # a scan tried it
@@ -94,18 +87,10 @@ class Page:
     last_change: int = 0  # when the last call that reached it was recorded
     join: JournalLine | None = None  # the event by which it joined the queue
     events: int = 0  # how many were emitted
-    fills: int = 0  # of these, the ones that only version 3 of a journal has
-
-    @staticmethod
-    def new(number: int, folio: int, order: int) -> Page:
-        subpages = 1 << order
-        return Page(number, folio, subpages, held=bits_of(0, subpages))
-
-    @property
-    def every(self) -> int:
-        return bits_of(0, self.subpages)
+    filling: int = 0  # of these, the ones that only version 3 of a journal has
 
     def used_subpages(self) -> int:
+        """Returns the subpages that are mapped."""
         return self.every if self.whole else self.own.used_subpages()
 
     def counts(self) -> tuple[int, int, int]:

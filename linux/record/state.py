@@ -1,5 +1,5 @@
 """The state of a journal while it is built: pages and their mappings, the queue, what runs, and the journal so far.
-Of a freed page one bit remains."""
+Of a freed page one byte remains."""
 
 from __future__ import annotations
 
@@ -9,32 +9,16 @@ from dataclasses import dataclass, field
 from typing import Iterator
 
 from ..common.files import BASE, PMD_ORDER
-from ..common.journal import FILLING, Event
-from .lines import JournalLines, OmittedPages
-from .pages import JournalLine, Mapping, Page
+from ..common.journal import FILLING, Event, journal_text
+from ..common.subpages import bits_of
+from .lines import JournalLine, JournalLines
+from .pages import Mapping, Page
 from .records import Kind, Record
 
 MOST_BLOCKS, CALLERS = 4096, 64  # of a journal's node (docs/FORMATS.md)
 SPARE_BLOCKS = 8  # of a journal's node, beyond the pages that lived at once
 NEVER_MAPPED = "another thread's fault was first"  # why such a page has no events; it isn't counted
 TOO_OLD = "joined the queue too long ago for its place to be changed"
-
-
-@dataclass(frozen=True)
-class Settings:
-    """What was recorded: the pages' order, the threshold (None: the switch is off). `straighten`: emit tries and put-backs
-    in the order of taking (E), and splits without mapped frames while the switch is off (B). `folios`: where the folios of
-    the queue's NUMA node are (none: pages of all nodes are in the queue)."""
-
-    order: int
-    threshold: int | None
-    straighten: bool
-    page_size: int = 64  # bytes of struct page
-    folios: tuple[range, ...] = ()
-
-    def has_in_queue(self, folio: int) -> bool:
-        """Returns whether the queue is the one of a page's NUMA node."""
-        return not self.folios or any(folio in each for each in self.folios)
 
 
 @dataclass(eq=False)
@@ -44,21 +28,25 @@ class Scan:
 
     start: Record
     pages: list[Page | None]
-    joining: list[Page] = field(default_factory=list)
+    joining: list[Page]
 
 
 @dataclass(eq=False)
 class State:
-    """What the records so far have shown."""
+    """What the records so far have shown; a node of a journal (common.journal.Node). `straighten`: emit tries and put-backs in the
+    order of taking (E), and splits without mapped frames while the switch is off (B)."""
 
-    settings: Settings
+    order: int
+    underused: int | None  # the threshold of zero-filled subpages; None: the switch is off
+    straighten: bool
+    page_size: int = 64  # bytes of struct page
+    folios: tuple[range, ...] = ()  # where those of the queue's NUMA node are; none: it has pages of all nodes
     lines: JournalLines = field(default_factory=JournalLines)  # the journal
-    tallies: dict[str, int] = field(default_factory=Tallies)  # what was seen, inferred and left out, by words
-    pages: int = 0  # all that ever lived
-    never_mapped: int = 0  # of these
-    left_out: int = 0  # of these too, for other reasons
+    tallies: dict[str, int] = field(default_factory=Tallies)  # what was observed, inferred and left out, by words
+    never_mapped: int = 0  # pages
+    left_out: int = 0  # pages, for other reasons
     events: int = 0  # the lines of pages that aren't left out
-    fills: int = 0  # of these, the ones that only version 3 of a journal has
+    filling: int = 0  # of these, the ones that only version 3 of a journal has
     at: dict[int, Page] = field(default_factory=dict)  # the pages that live, by folio
     queue: list[Page] = field(default_factory=list)  # the kernel's, oldest first
     journal_queue: list[Page] = field(default_factory=list)  # the journal's, which differs where it is straightened
@@ -70,56 +58,71 @@ class State:
     is_missing: bool = False  # a scan wasn't followed
     now: int = 0  # the time of the current record
     task: int = 0  # and its task
-    _omitted: OmittedPages = field(default_factory=OmittedPages)
-    _callers: bytearray = field(default_factory=bytearray)  # of each task, 0: none yet, else one more than its number
-    _caller_count: int = 0
+    _omitted: bytearray = field(default_factory=bytearray)  # of each page, whether it is left out
+    _callers: dict[int, int] = field(default_factory=dict)  # the journal's numbers of tasks
     _live: int = 0
     _most: int = 0  # pages that lived at once
 
     @property
     def blocks(self) -> int:
-        """The blocks that the journal's node needs."""
+        """How many blocks the node needs."""
         return min(MOST_BLOCKS, self._most + SPARE_BLOCKS)
 
-    def timed_texts(self) -> Iterator[tuple[int, str]]:
-        """Returns the times and texts of the journal's lines, without the pages that are left out."""
-        return self.lines.timed_texts(self._omitted)
+    @property
+    def fills(self) -> bool:
+        """Whether an event is one that only version 3 of a journal has."""
+        return self.filling > 0
+
+    @property
+    def pages(self) -> int:
+        """How many pages were mapped."""
+        return len(self._omitted) - self.never_mapped
+
+    def text(self) -> str:
+        """Returns the journal of this node alone."""
+        return journal_text([self])
+
+    def texts(self) -> Iterator[str]:
+        """Returns the journal's lines, without the pages that are left out."""
+        return (text for _, text in self.lines.timed_texts(self._omitted))
+
+    def times(self) -> Iterator[int]:
+        """Returns the time (ns) of each line. An event is shown by a later record at times, and lines are reordered: none is before
+        the line above it."""
+        latest = 0
+        for time, _ in self.lines.timed_texts(self._omitted):
+            latest = max(latest, time)
+            yield latest
 
     def emit(
         self, task: int, page: Page, word: str, first: int = 0, count: int = 0, outcome: str = "", given: int = 0
     ) -> None:
         """Emits an event of a page."""
-        event = Event(self._caller(task), word, page.number, first, count, outcome, given)
+        caller = self._callers.setdefault(task, len(self._callers) % CALLERS)
+        event = Event(caller, word, page.number, first, count, outcome, given)
         self.lines.add(JournalLine(page.number, event.text(), self.now))
         self.tallies[f"events {word}"] += 1
         if not page.omission:
             fills = word in FILLING
-            page.events, page.fills = page.events + 1, page.fills + fills
-            self.events, self.fills = self.events + 1, self.fills + fills
+            page.events, page.filling = page.events + 1, page.filling + fills
+            self.events, self.filling = self.events + 1, self.filling + fills
 
-    def _caller(self, task: int) -> int:
-        """Returns the journal's number of a task."""
-        if task >= len(self._callers):
-            self._callers.extend(bytes(task + 1024 - len(self._callers)))
-        if not self._callers[task]:
-            self._callers[task] = 1 + self._caller_count % CALLERS
-            self._caller_count += 1
-        return self._callers[task] - 1
+    def is_followed(self, folio: int) -> bool:
+        """Returns whether the queue is the one of a page's NUMA node."""
+        return not self.folios or any(folio in each for each in self.folios)
 
     def new_page(self, task: int, space: int, folio: int, address: int) -> Page:
         """Adds a page that an address space maps whole."""
-        page = Page.new(self.pages, folio, self.settings.order)
-        self.pages += 1
-        self.at[folio] = page
-        page.born = self.now
-        length = BASE << self.settings.order
-        mapping = Mapping(address // length * length, True, page.every, self.now)
+        every = bits_of(0, 1 << self.order)
+        page = self.at[folio] = Page(len(self._omitted), folio, 1 << self.order, every, every, self.now)
+        self._omitted.append(False)
+        mapping = Mapping(space, address & -(BASE << self.order), True, every, self.now)
         page.maps[space] = self.spaces[space][page] = mapping
         self._live += 1
         self._most = max(self._most, self._live)
         self.emit(task, page, "alloc")
         page.first = self.lines.latest[-1]
-        if self.settings.threshold is not None and self.settings.order == PMD_ORDER:
+        if self.underused is not None and self.order == PMD_ORDER:
             self.enqueue(page)
         return page
 
@@ -153,9 +156,8 @@ class State:
         self.remove_page(page)
 
     def _leave_out(self, page: Page, why: str) -> None:
-        page.omission = why
-        self._omitted.add(page.number)
-        self.events, self.fills = self.events - page.events, self.fills - page.fills
+        page.omission, self._omitted[page.number] = why, True
+        self.events, self.filling = self.events - page.events, self.filling - page.filling
 
     def remove_page(self, page: Page) -> None:
         """Removes a page that was freed."""
@@ -167,17 +169,28 @@ class State:
         for space in page.maps:
             self.spaces.get(space, {}).pop(page, None)
 
+    def hold(self, task: int, page: Page) -> None:
+        """Emits a pin of a page that something holds, unless it has one."""
+        if not page.pins:
+            page.pins = 1
+            self.emit(task, page, "pin")
+
+    def let_go(self, task: int, page: Page) -> None:
+        """Emits that nothing holds a page any more, if something did."""
+        if page.pins:
+            page.pins = 0
+            self.emit(task, page, "unpin", outcome="stays")
+
     def last_unpin(self, task: int, page: Page) -> None:
         """Emits the last unpin of a page that nothing maps."""
-        if not page.pins:
-            self.emit(task, page, "pin")
+        self.hold(task, page)
         self.emit(task, page, "unpin", outcome="freed", given=page.held)
         self.remove_page(page)
 
     def ending_spaces(self, page: Page) -> list[int]:
         """Returns the address spaces that map a page and are ending, the first to end first: nothing else of them comes any more."""
         ends = [(self.ends[space], space) for space in page.maps if space in self.ends]
-        return [space for end, space in sorted(ends, key=lambda each: each[0].time) if end.last_activity < self.now]
+        return [space for end, space in sorted(ends, key=lambda each: each[0].time) if end.link < self.now]
 
     def is_ending(self, page: Page) -> bool:
         """Returns whether all address spaces that map a page are ending."""
