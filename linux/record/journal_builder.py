@@ -16,9 +16,9 @@ from typing import Iterable
 from ..common.files import BASE, PMD_ORDER
 from ..common.subpages import runs
 from .calls import COLLAPSE, COPIED, MADVISE, MADV_COLLAPSE, has_succeeded
-from .pages import Page
 from .records import IN_FAULT, Kind, Record
 from .scans import ScanEvents
+from .state import Page
 
 WRITTEN = 3  # bits of a fault's error code: present, written
 MOVES = 1024  # pages that a task has mapped again before it frees the old ones

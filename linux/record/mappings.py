@@ -7,9 +7,8 @@ from dataclasses import dataclass, field, replace
 from ..common.files import BASE, PMD_ORDER
 from ..common.subpages import bits_of, runs
 from .calls import COLLAPSE, REMOVING, Effect, MappingChange, list_effects
-from .pages import Mapping, Page
 from .records import Record
-from .state import State
+from .state import Mapping, Page, State
 
 
 @dataclass(eq=False)

@@ -3,8 +3,8 @@
 from __future__ import annotations
 
 from .mappings import MappingEvents
-from .pages import Page
 from .records import Kind
+from .state import Page
 
 
 class QueueMatcher(MappingEvents):

@@ -10,23 +10,27 @@ import time
 from argparse import Namespace
 from contextlib import suppress
 from dataclasses import dataclass
-from typing import Sequence
+from typing import Iterator, Sequence
 
 from ..common.errors import RunFailed
-from ..common.files import COLLAPSE_SLEEP, COMPACT, PTES_NONE, SWITCH, read, size_folder, write
+from ..common.files import COLLAPSE_SLEEP, COMPACT, PMD_ORDER, PTES_NONE, SWITCH, read, size_folder, write
 from ..common.groups import Groups
+from ..common.guardian import members
 from ..common.keeper import Keeper
 from ..common.kernel_library import Counters, Settings, load_library, open_programs
 from ..common.kernel_memory import KernelMemory
 from ..common.numa import numa_frames
+from ..common.reader import Reader
+from ..common.second_look import SecondLook
 from .commands import PAUSE, Commands, Interrupts
-from .contents import ContentLooks
+from .records import Kind, Record, pack_record
 from .scratch import FOLDER
 from .store import Store
 
 RING = 1 << 24  # bytes of all rings; all of them count as resident
 QUIET = 3600000  # milliseconds between khugepaged's rounds
 AFTER = 0.05  # seconds for what comes after the commands' end
+MOST_MEMORY = 64  # MiB of one look at contents
 
 
 class Track:
@@ -65,6 +69,40 @@ class Track:
     def close(self) -> None:
         """Removes the programs and the ring."""
         self._library.thp_record_close(self._recorder)
+
+
+class ContentLooks:
+    """Looks at the contents of control groups' huge pages, at one as often as at the other: which subpages have data, and which are
+    zero-filled."""
+
+    def __init__(self, memory: KernelMemory, paths: Sequence[str], orders: Sequence[int], every: float) -> None:
+        self._memory, self._paths, self._orders, self._every = memory, paths, orders, every
+        self._due = time.monotonic() + every
+
+    def look_if_due(self) -> dict[str, list[bytes]]:
+        """Returns for each group, by its path, the records of what its pages contain; nothing before the time of the next look."""
+        if time.monotonic() < self._due:
+            return {}
+        out = {path: [pack_record(record) for record in self._look_at(path)] for path in self._paths}
+        self._due = time.monotonic() + self._every
+        return out
+
+    def _look_at(self, path: str) -> Iterator[Record]:
+        began = time.monotonic_ns()
+        reader = Reader(self._memory, min(self._orders) < PMD_ORDER, 1, memory=MOST_MEMORY)
+        try:
+            reader.read_processes([number for number in members(path) if number != os.getpid()])
+            reader.read_groups(reader.folios.values())
+            reader.read_counts(reader.folios.values())
+            reader.read_contents()
+            SecondLook(reader).take()
+            now = time.monotonic_ns()
+            for frame, folio in reader.folios.items():
+                if folio.order in self._orders:
+                    values = (self._memory.folio(frame), began, *(0,) * 7)
+                    yield Record(Kind.CONTENTS, now, 0, 0, values, None, (folio.known & ~folio.zero, folio.zero))
+        finally:
+            reader.close()
 
 
 @dataclass(frozen=True)

@@ -6,10 +6,9 @@ from dataclasses import dataclass
 from typing import Iterator
 
 from ..common.subpages import runs, size
-from .pages import Page
 from .queue_matcher import QueueMatcher
 from .records import Record
-from .state import Scan
+from .state import Page, Scan
 
 BATCH = 128  # pages that a scan takes at most at a time
 

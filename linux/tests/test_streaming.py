@@ -13,9 +13,8 @@ from unittest import mock
 from ..record import lines
 from ..record.journal_builder import JournalBuilder
 from ..record.outputs import JournalFile
-from ..record.pages import MapCounts
 from ..record.records import IN_FAULT, Kind
-from ..record.state import TOO_OLD
+from ..record.state import TOO_OLD, MapCounts
 from .recordings import BY_FAULT, IN_NONE, linked, read_recording, stored
 from .sample_records import RECORDS_OF_A_PAGE
 from .test_following import TwoTaskBuilder, build_journal, event_words
