@@ -25,13 +25,8 @@ typedef _Bool bool;
 enum { false, true };
 
 /* include/uapi/linux/bpf.h */
-enum {
-	BPF_MAP_TYPE_HASH = 1,
-	BPF_MAP_TYPE_PERCPU_ARRAY = 6,
-	BPF_MAP_TYPE_LRU_HASH = 9,
-	BPF_MAP_TYPE_RINGBUF = 27,
-	BPF_MAP_TYPE_TASK_STORAGE = 29,
-};
+enum { BPF_MAP_TYPE_HASH = 1, BPF_MAP_TYPE_PERCPU_ARRAY = 6, BPF_MAP_TYPE_LRU_HASH = 9 };
+enum { BPF_MAP_TYPE_RINGBUF = 27, BPF_MAP_TYPE_TASK_STORAGE = 29 };
 enum { BPF_ANY = 0, BPF_F_NO_PREALLOC = 1, BPF_LOCAL_STORAGE_GET_F_CREATE = 1 };
 
 #pragma clang attribute push(__attribute__((preserve_access_index)), apply_to = record)
@@ -44,19 +39,10 @@ struct mm_struct { unsigned long brk; struct task_struct *owner; void *pgd; };
 struct pt_regs { unsigned long orig_ax, di, si, dx, r10; };
 enum cgroup_subsys_id { memory_cgrp_id = 4 };
 struct kernfs_node { void *priv; };
-struct cgroup_subsys_state {
-	struct cgroup *cgroup;
-	struct cgroup_subsys *ss;
-	struct cgroup_subsys_state *parent;
-};
+struct cgroup_subsys_state { struct cgroup *cgroup; struct cgroup_subsys *ss; struct cgroup_subsys_state *parent; };
 struct cgroup { struct cgroup_subsys_state *subsys[1]; };
 struct css_set { struct cgroup_subsys_state *subsys[1]; };
-struct task_struct {
-	int tgid;
-	struct mm_struct *mm;
-	struct css_set *cgroups;
-	struct files_struct *files;
-};
+struct task_struct { int tgid; struct mm_struct *mm; struct css_set *cgroups; struct files_struct *files; };
 
 /* files: from a descriptor of the caller to a control group, or to a page */
 struct xarray { void *xa_head; };

@@ -47,10 +47,8 @@ int describe_kernel(struct thp_request *request)
 {
 	static const char scan[] = "deferred_split_scan", lists[] = "deferred_split_lru";
 
-	if (bpf_kallsyms_lookup_name(scan, sizeof(scan), 0, &window.scan_function))
-		window.scan_function = 0;
-	if (bpf_kallsyms_lookup_name(lists, sizeof(lists), 0, &window.queue_lists))
-		window.queue_lists = 0;
+	bpf_kallsyms_lookup_name(scan, sizeof(scan), 0, &window.scan_function);	/* 0 where it isn't found */
+	bpf_kallsyms_lookup_name(lists, sizeof(lists), 0, &window.queue_lists);
 	window.has_lists = !has_group_queue();
 	window.page_size = bpf_core_type_size(struct page);
 	return window.has_lists && !window.queue_lists ? NO_QUEUE : FINE;
@@ -110,12 +108,10 @@ SEC("syscall")
 int read_queue(struct thp_request *request)
 {
 	/* a copy: the verifier refuses a context whose address was computed with */
-	struct thp_request run = { .group = request->group, .numa_node = request->numa_node, .at = request->at };
+	struct thp_request run = *request;
 	enum answer answer = walk_queue(&run);
 
-	request->at = run.at;
-	request->found = run.found;
-	request->length = run.length;
+	*request = run;
 	return answer;
 }
 

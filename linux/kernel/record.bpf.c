@@ -28,17 +28,9 @@ enum { CHARGED_TO = ~7, FRAME_END = 52 };
 /* Whether a call may change mappings; of mmap, one that replaces a mapping. */
 static __always_inline bool changes_mappings(long number, struct pt_regs *regs)
 {
-	switch (number) {
-	case MUNMAP:
-	case MPROTECT:
-	case MREMAP:
-	case MADVISE:
-	case BRK:
-		return true;
-	case MMAP:
+	if (number == MMAP)
 		return (regs->r10 & (FIXED | NOREPLACE)) == FIXED;
-	}
-	return false;
+	return number == MUNMAP || number == MPROTECT || number == MREMAP || number == MADVISE || number == BRK;
 }
 
 /* Whether a call can reach a page of the group. */
@@ -56,7 +48,7 @@ static __always_inline bool matters(long number, struct pt_regs *regs, struct ta
 
 static __always_inline int send_enter(long number, struct pt_regs *regs, struct task_struct *task)
 {
-	return send(ENTER, task, number, regs->di, regs->si, regs->dx, task->mm->brk);
+	return send(ENTER, task, VALUES(number, regs->di, regs->si, regs->dx, task->mm->brk));
 }
 
 static __always_inline int begin_call(struct pt_regs *regs, long number)
@@ -90,18 +82,7 @@ static __always_inline int begin_call(struct pt_regs *regs, long number)
  * sys_enter: the begin of a call that may change mappings (ENTER). Forgets the task's last fault, to which a call's allocations
  * don't belong. tp_btf: reads registers and the task.
  */
-SEC("tp_btf/sys_enter")
-int BPF_PROG(on_enter, struct pt_regs *regs, long number)
-{
-	begin_call(regs, number);
-	return end_first(AT_ENTER);
-}
-
-SEC("tp_btf/sys_enter")
-int BPF_PROG(on_enter_again, struct pt_regs *regs, long number)
-{
-	return was_left_out(AT_ENTER) ? begin_call(regs, number) : 0;
-}
+PAIR("tp_btf/sys_enter", on_enter, AT_ENTER, begin_call(regs, number), struct pt_regs *regs, long number)
 
 /* The folio that is known at an address, and in `home` its place; 0: none. */
 static __always_inline __u64 find_home(struct thp_home *home, __u64 address)
@@ -130,14 +111,8 @@ static __always_inline bool is_head(struct folio *folio)
 	return flags >> bpf_core_enum_value(enum pageflags, PG_head) & 1;
 }
 
-/* Whether this kernel counts mappings in the form that FolioCounts of records.py has. */
-static __always_inline bool has_counts(void)
-{
-	return bpf_core_field_exists(struct folio, _large_mapcount) && bpf_core_field_exists(struct folio, _entire_mapcount) &&
-	       bpf_core_field_exists(struct folio, _nr_pages_mapped);
-}
-
-/* Adds the page that is known at the call's address, and its map counts; notes where mremap has moved it, to one block or two. */
+/* Adds the page that is known at the call's address, and its map counts, where this kernel counts them so; notes where mremap has
+ * moved it, to one block or two. */
 static __always_inline void add_counts(struct thp_record *record, long result)
 {
 	struct thp_home home = { .space = record->space };
@@ -145,7 +120,8 @@ static __always_inline void add_counts(struct thp_record *record, long result)
 	__u64 found;
 	__u32 order;
 
-	if (!has_counts())
+	if (!bpf_core_field_exists(struct folio, _large_mapcount) || !bpf_core_field_exists(struct folio, _entire_mapcount) ||
+	    !bpf_core_field_exists(struct folio, _nr_pages_mapped))
 		return;
 	found = find_home(&home, record->values[1]);
 	if (!found)
@@ -187,34 +163,18 @@ static __always_inline int end_call(struct pt_regs *regs, long result)
 		send_enter(number, regs, task);
 	}
 	state->has_entered = false;
-	record = begin_with_queue(EXIT, task);
+	record = begin_with_queue(EXIT, task, VALUES(number, regs->di, regs->si, regs->dx, result));
 	if (!record)
 		return 0;
-	record->values[0] = number;
-	record->values[1] = regs->di;
-	record->values[2] = regs->si;
-	record->values[3] = regs->dx;
-	record->values[4] = result;
 	add_counts(record, result);
-	return send_with_queue(record);
+	return add_queue(record);
 }
 
 /*
  * sys_exit: the end of such a call, with map counts and the queue (EXIT). A call that reached no page at its begin may reach one
  * at its end: then both are sent. tp_btf: reads registers and the task.
  */
-SEC("tp_btf/sys_exit")
-int BPF_PROG(on_exit, struct pt_regs *regs, long result)
-{
-	end_call(regs, result);
-	return end_first(AT_EXIT);
-}
-
-SEC("tp_btf/sys_exit")
-int BPF_PROG(on_exit_again, struct pt_regs *regs, long result)
-{
-	return was_left_out(AT_EXIT) ? end_call(regs, result) : 0;
-}
+PAIR("tp_btf/sys_exit", on_exit, AT_EXIT, end_call(regs, result), struct pt_regs *regs, long result)
 
 /* faults, allocations, frees */
 
@@ -234,36 +194,16 @@ static __always_inline int on_fault(unsigned long address, unsigned long code)
 	if (!state->is_next)
 		return 0;
 	state->is_next = false;
-	return send(FAULT, task, address, code, 0, 0, 0);
+	return send(FAULT, task, VALUES(address, code));
 }
 
 /* page_fault_user: a fault of a task, where something waits for it (FAULT). tp_btf: reads the task. */
-SEC("tp_btf/page_fault_user")
-int BPF_PROG(on_user_fault, unsigned long address, struct pt_regs *regs, unsigned long code)
-{
-	on_fault(address, code);
-	return end_first(AT_USER_FAULT);
-}
-
-SEC("tp_btf/page_fault_user")
-int BPF_PROG(on_user_fault_again, unsigned long address, struct pt_regs *regs, unsigned long code)
-{
-	return was_left_out(AT_USER_FAULT) ? on_fault(address, code) : 0;
-}
+PAIR("tp_btf/page_fault_user", on_user_fault, AT_USER_FAULT, on_fault(address, code),
+     unsigned long address, struct pt_regs *regs, unsigned long code)
 
 /* page_fault_kernel: the same for a fault in a call, as of copy_from_user. */
-SEC("tp_btf/page_fault_kernel")
-int BPF_PROG(on_kernel_fault, unsigned long address, struct pt_regs *regs, unsigned long code)
-{
-	on_fault(address, code);
-	return end_first(AT_KERNEL_FAULT);
-}
-
-SEC("tp_btf/page_fault_kernel")
-int BPF_PROG(on_kernel_fault_again, unsigned long address, struct pt_regs *regs, unsigned long code)
-{
-	return was_left_out(AT_KERNEL_FAULT) ? on_fault(address, code) : 0;
-}
+PAIR("tp_btf/page_fault_kernel", on_kernel_fault, AT_KERNEL_FAULT, on_fault(address, code),
+     unsigned long address, struct pt_regs *regs, unsigned long code)
 
 /* The first struct page of the block of 2 MiB that a page is in. */
 static __always_inline __u64 block_of(__u64 page)
@@ -311,7 +251,7 @@ static __always_inline int on_base_page(__u64 page, __u32 flags)
 	if (space ? !space->all && !may_have(space, block, block) : !counters.unfiltered)
 		return 0;
 	state->is_next = true;
-	return send(COPY, task, page, IN_FAULT, state->address, state->code, 0);
+	return send(COPY, task, VALUES(page, IN_FAULT, state->address, state->code));
 }
 
 static __always_inline int note_alloc(__u64 folio, unsigned int order, __u32 flags)
@@ -344,7 +284,7 @@ static __always_inline int note_alloc(__u64 folio, unsigned int order, __u32 fla
 		bpf_map_update_elem(&homes, &home, &folio, BPF_ANY);
 		add_page(mm, state->address);
 	}
-	return send(ALLOC, task, folio, order, state->address ? IN_FAULT : IN_NONE, state->address, state->code);
+	return send(ALLOC, task, VALUES(folio, order, state->address ? IN_FAULT : IN_NONE, state->address, state->code));
 }
 
 /*
@@ -352,18 +292,8 @@ static __always_inline int note_alloc(__u64 folio, unsigned int order, __u32 fla
  * be copies (COPY). Huge pages have __GFP_NOMEMALLOC, and all except the huge zero page are movable. raw_tp: it computes with
  * the address of the page.
  */
-SEC("raw_tp/mm_page_alloc")
-int BPF_PROG(on_alloc, struct page *page, unsigned int order, __u32 flags)
-{
-	note_alloc((__u64)page, order, flags);
-	return end_first(AT_ALLOC);
-}
-
-SEC("raw_tp/mm_page_alloc")
-int BPF_PROG(on_alloc_again, struct page *page, unsigned int order, __u32 flags)
-{
-	return was_left_out(AT_ALLOC) ? note_alloc((__u64)page, order, flags) : 0;
-}
+PAIR("raw_tp/mm_page_alloc", on_alloc, AT_ALLOC, note_alloc((__u64)page, order, flags),
+     struct page *page, unsigned int order, __u32 flags)
 
 /*
  * Sends the free of a page in a block where a huge page of ours was made. A frame that is freed again was another's meanwhile, and
@@ -384,7 +314,7 @@ static __always_inline int send_free(__u64 page, unsigned int order)
 	} else {
 		bpf_map_delete_elem(&tracked, &block);
 	}
-	return send(FREE, bpf_get_current_task_btf(), page, order, 0, 0, 0);
+	return send(FREE, bpf_get_current_task_btf(), VALUES(page, order));
 }
 
 /* mm_page_free: pages in blocks where a huge page of ours was made, by whomever they are freed (FREE). raw_tp: it computes with
@@ -415,7 +345,6 @@ int BPF_PROG(on_collapse, struct mm_struct *mm, int isolated, int status)
 {
 	struct task_struct *task = bpf_get_current_task_btf(), *owner = mm->owner;
 	struct thp_home home = { .space = (__u64)mm };
-	struct thp_record *record;
 	struct thp_task *state;
 	__u64 folio, index;
 
@@ -433,14 +362,7 @@ int BPF_PROG(on_collapse, struct mm_struct *mm, int isolated, int status)
 	home.block = index >> PMD_ORDER << 4 | PMD_ORDER;
 	bpf_map_update_elem(&homes, &home, &folio, BPF_ANY);
 	add_page(home.space, index << BASE_BITS);
-	record = begin_with_queue(COLLAPSED, task);
-	if (!record)
-		return 0;
-	record->values[0] = home.space;
-	record->values[1] = status;
-	record->values[2] = folio;
-	record->values[3] = index;
-	return send_with_queue(record);
+	return send_with_queue(COLLAPSED, task, VALUES(home.space, status, folio, index));
 }
 
 /* A mapping of a page of the group exists again, where a migration entry was. The page is known by its frame. */
@@ -453,7 +375,7 @@ static __always_inline int on_moved(unsigned long address, unsigned long entry, 
 	if (charged != settings.group && (__u64)READ(&((struct obj_cgroup *)charged)->memcg) != settings.group)
 		return 0;	/* Linux 7 charges it to an obj_cgroup */
 	track(page);
-	return send(MOVED, bpf_get_current_task_btf(), address, page, order, 0, 0);
+	return send(MOVED, bpf_get_current_task_btf(), VALUES(address, page, order));
 }
 
 /* remove_migration_pmd: a migration, or a split that failed, maps a page again (MOVED). tp_btf: reads the task. */
@@ -488,7 +410,7 @@ int BPF_PROG(on_fork, struct task_struct *parent, struct task_struct *child)
 		return 0;
 	if (space && bpf_map_update_elem(&spaces, &to, space, BPF_ANY))
 		counters.unfiltered = 1;
-	return send(FORK, task, from, to, child->tgid, 0, 0);
+	return send(FORK, task, VALUES(from, to, child->tgid));
 }
 
 /* exit_mmap: an address space has ended, with the queue (EXIT_MMAP). tp_btf: reads the task. */
@@ -496,15 +418,10 @@ SEC("tp_btf/exit_mmap")
 int BPF_PROG(on_exit_mmap, struct mm_struct *mm)
 {
 	__u64 space = (__u64)mm;
-	struct thp_record *record;
 
 	if (bpf_map_delete_elem(&spaces, &space) && !counters.unfiltered)
 		return 0;
-	record = begin_with_queue(EXIT_MMAP, bpf_get_current_task_btf());
-	if (!record)
-		return 0;
-	record->values[0] = space;
-	return send_with_queue(record);
+	return send_with_queue(EXIT_MMAP, bpf_get_current_task_btf(), VALUES(space));
 }
 
 /* mm_shrink_slab_start: the shrinker begins on the queue, with the queue (SCAN). tp_btf: reads shrinker and control. */
@@ -513,7 +430,6 @@ int BPF_PROG(on_scan, struct shrinker *shrinker, struct shrink_control *control,
 	     unsigned long long delta, unsigned long total)
 {
 	struct task_struct *task = bpf_get_current_task_btf();
-	struct thp_record *record;
 	struct thp_task *state;
 
 	if ((__u64)shrinker->scan_objects != settings.scan_function || (__u64)control->memcg != settings.group)
@@ -524,12 +440,7 @@ int BPF_PROG(on_scan, struct shrinker *shrinker, struct shrink_control *control,
 	if (!state)
 		return 0;
 	state->scans = true;
-	record = begin_with_queue(SCAN, task);
-	if (!record)
-		return 0;
-	record->values[0] = total;
-	record->values[1] = freeable;
-	return send_with_queue(record);
+	return send_with_queue(SCAN, task, VALUES(total, freeable));
 }
 
 /* mm_shrink_slab_end: the end of a scan of our queue, with the queue (SCANNED). Its group isn't among the arguments: the task's
@@ -538,7 +449,6 @@ SEC("tp_btf/mm_shrink_slab_end")
 int BPF_PROG(on_scanned, struct shrinker *shrinker, int nid, int freed, long unused, long deferred, long total)
 {
 	struct task_struct *task = bpf_get_current_task_btf();
-	struct thp_record *record;
 	struct thp_task *state;
 
 	if ((__u64)shrinker->scan_objects != settings.scan_function)
@@ -547,10 +457,5 @@ int BPF_PROG(on_scanned, struct shrinker *shrinker, int nid, int freed, long unu
 	if (!state || !state->scans)
 		return 0;
 	state->scans = false;
-	record = begin_with_queue(SCANNED, task);
-	if (!record)
-		return 0;
-	record->values[0] = freed;
-	record->values[1] = total;
-	return send_with_queue(record);
+	return send_with_queue(SCANNED, task, VALUES(freed, total));
 }

@@ -40,36 +40,18 @@ struct {
 	__type(value, struct thp_task);
 } tasks SEC(".maps");
 
-struct {
-	__uint(type, BPF_MAP_TYPE_HASH);
-	__uint(max_entries, SPACES);
-	__type(key, __u64);
-	__type(value, struct thp_space);
-} spaces SEC(".maps");
+#define MAP(name, kind, most, key_type, value_type) struct {	\
+	__uint(type, BPF_MAP_TYPE_##kind);			\
+	__uint(max_entries, most);				\
+	__type(key, key_type);					\
+	__type(value, value_type);				\
+} name SEC(".maps")
 
-/* the folio at a place of its order */
-struct {
-	__uint(type, BPF_MAP_TYPE_LRU_HASH);
-	__uint(max_entries, HOMES);
-	__type(key, struct thp_home);
-	__type(value, __u64);
-} homes SEC(".maps");
-
-/* blocks whose frees are recorded, and a bit for each frame whose free was */
-struct {
-	__uint(type, BPF_MAP_TYPE_HASH);
-	__uint(max_entries, TRACKED);
-	__type(key, __u64);
-	__type(value, struct thp_seen);
-} tracked SEC(".maps");
-
+MAP(spaces, HASH, SPACES, __u64, struct thp_space);
+MAP(homes, LRU_HASH, HOMES, struct thp_home, __u64);		/* the folio at a place of its order */
+MAP(tracked, HASH, TRACKED, __u64, struct thp_seen);		/* blocks whose frees are recorded, a bit for each frame whose free was */
 /* records with a queue, one of each kind, since an interrupt may send another */
-struct {
-	__uint(type, BPF_MAP_TYPE_PERCPU_ARRAY);
-	__uint(max_entries, KINDS);
-	__type(key, __u32);
-	__type(value, struct thp_record);
-} scratch SEC(".maps");
+MAP(scratch, PERCPU_ARRAY, KINDS, __u32, struct thp_record);
 
 static const struct thp_space blank;
 
@@ -81,12 +63,13 @@ static const struct thp_space blank;
 enum pair { AT_ENTER, AT_EXIT, AT_USER_FAULT, AT_KERNEL_FAULT, AT_ALLOC, AT_FREE, PAIRS };
 struct thp_pair { __u64 done, seen; };	/* runs of the first program, and how many of them the second one has seen */
 
-struct {
-	__uint(type, BPF_MAP_TYPE_PERCPU_ARRAY);
-	__uint(max_entries, PAIRS);
-	__type(key, __u32);
-	__type(value, struct thp_pair);
-} pairs SEC(".maps");
+MAP(pairs, PERCPU_ARRAY, PAIRS, __u32, struct thp_pair);
+
+static __always_inline int lose(void)
+{
+	__sync_fetch_and_add(&counters.lost, 1);
+	return 0;
+}
 
 /* The end of a first program. */
 static __always_inline int end_first(__u32 which)
@@ -115,6 +98,21 @@ static __always_inline bool was_left_out(__u32 which)
 	return left_out;
 }
 
+#define PAIR(section, name, which, call, arguments...)		\
+SEC(section)							\
+int BPF_PROG(name, arguments)					\
+{								\
+	call;							\
+	return end_first(which);				\
+}								\
+SEC(section)							\
+int BPF_PROG(name##_again, arguments)				\
+{								\
+	if (was_left_out(which))				\
+		call;						\
+	return 0;						\
+}
+
 /* tasks and address spaces */
 
 static __always_inline __u64 group_of(struct task_struct *task)
@@ -128,7 +126,7 @@ static __always_inline struct thp_task *state_of(struct task_struct *task)
 	struct thp_task *state = bpf_task_storage_get(&tasks, task, 0, BPF_LOCAL_STORAGE_GET_F_CREATE);
 
 	if (!state)
-		__sync_fetch_and_add(&counters.lost, 1);
+		lose();
 	return state;
 }
 
@@ -173,49 +171,31 @@ static __always_inline bool may_have(struct thp_space *space, __u64 block, __u64
 
 /* records */
 
-static __always_inline void fill(struct thp_record *record, enum kind kind, struct task_struct *task)
+#define VALUES(values...) ((__u64[9]){ values })
+
+static __always_inline void fill(struct thp_record *record, enum kind kind, struct task_struct *task, const __u64 *values)
 {
 	record->kind = kind;
 	record->time = bpf_ktime_get_ns();
 	record->task = bpf_get_current_pid_tgid();
 	record->space = (__u64)task->mm;
-	__builtin_memset(record->values, 0, sizeof(record->values) + 3 * sizeof(__u64));
+	__builtin_memcpy(record->values, values, sizeof(record->values));
+	record->space_end = record->count = record->link = 0;
 }
 
-/* Sends a record with up to five values; whether there was room. */
-static __always_inline bool try_to_send(enum kind kind, struct task_struct *task, __u64 a, __u64 b, __u64 c, __u64 d, __u64 e)
+/* Sends a record with VALUES. Tried again: the ring's lock may be refused once, to a processor that waited long for it. */
+static __always_inline int send(enum kind kind, struct task_struct *task, const __u64 *values)
 {
-	struct thp_record *record = bpf_ringbuf_reserve(&ring, __builtin_offsetof(struct thp_record, folios), 0);
+	for (int i = 0; i < TRIES; i++) {
+		struct thp_record *record = bpf_ringbuf_reserve(&ring, __builtin_offsetof(struct thp_record, folios), 0);
 
-	if (!record)
-		return false;
-	fill(record, kind, task);
-	record->values[0] = a;
-	record->values[1] = b;
-	record->values[2] = c;
-	record->values[3] = d;
-	record->values[4] = e;
-	bpf_ringbuf_submit(record, 0);
-	return true;
-}
-
-/* The same, tried again: the ring's lock may be refused once, to a processor that waited long for it. */
-static __always_inline int send(enum kind kind, struct task_struct *task, __u64 a, __u64 b, __u64 c, __u64 d, __u64 e)
-{
-	for (int i = 0; i < TRIES; i++)
-		if (try_to_send(kind, task, a, b, c, d, e))
+		if (record) {
+			fill(record, kind, task, values);
+			bpf_ringbuf_submit(record, 0);
 			return 0;
-	__sync_fetch_and_add(&counters.lost, 1);
-	return 0;
-}
-
-static __always_inline struct thp_record *begin_with_queue(__u32 kind, struct task_struct *task)
-{
-	struct thp_record *record = bpf_map_lookup_elem(&scratch, &kind);
-
-	if (record)
-		fill(record, kind, task);
-	return record;
+		}
+	}
+	return lose();
 }
 
 extern void *bpf_rdonly_cast(const void *address, __u32 type) __ksym __weak;	/* Linux 6.2 */
@@ -237,8 +217,8 @@ static long step(__u32 index, struct thp_walk *walk)
 	return 0;
 }
 
-/* Sends a record with a copy of the queue, which is made again where the walk didn't end where it began. */
-static __always_inline int send_with_queue(struct thp_record *record)
+/* Adds a copy of the queue, which is made again where the walk didn't end where it began, and sends the record. */
+static __always_inline int add_queue(struct thp_record *record)
 {
 	__u32 numa_node = settings.numa_node < 0 ? 0 : settings.numa_node;
 	struct thp_walk walk = { .record = record };
@@ -259,8 +239,22 @@ static __always_inline int send_with_queue(struct thp_record *record)
 	for (int i = 0; i < TRIES; i++)
 		if (!bpf_ringbuf_output(&ring, record, size, 0))
 			return 0;
-	__sync_fetch_and_add(&counters.lost, 1);
-	return 0;
+	return lose();
 }
 
+static __always_inline struct thp_record *begin_with_queue(__u32 kind, struct task_struct *task, const __u64 *values)
+{
+	struct thp_record *record = bpf_map_lookup_elem(&scratch, &kind);
+
+	if (record)
+		fill(record, kind, task, values);
+	return record;
+}
+
+static __always_inline int send_with_queue(__u32 kind, struct task_struct *task, const __u64 *values)
+{
+	struct thp_record *record = begin_with_queue(kind, task, values);
+
+	return record ? add_queue(record) : 0;
+}
 #endif

@@ -1,23 +1,20 @@
 """Records the kernel's own deferred split queue as a journal, and has `thpcheck` check it.
 
     options          the command line
-    recorder         a recording: control groups, trace programs, the commands that run
-        commands         commands in control groups, from their start to their end
-    trace_programs   the BPF programs (linux/kernel/record.bpf.c), whose records it takes
+    recorder         a recording: control groups, BPF programs (linux/kernel/record.bpf.c), the commands that run
+        commands     commands in control groups, from their start to their end
     scratch          a temporary file without a name
     store            records on disk, read back in passes
     records          the kinds and fields of records
     calls            effects of system calls on mappings
-    pages            a recorded page, and the address spaces that map it
-    journal_builder  builds a journal from records, with
-        state            pages, mappings, queue and journal so far
-        lines            the journal's latest lines, and older ones on disk
-        mappings         effects of calls, forks and ends of address spaces on pages
-        queue_matcher    compares the kernel's queue with the journal's
+    journal_builder  builds a journal from records: it is a ScanEvents, which is a QueueMatcher, and so on
         scans            pages that the shrinker took, split and put back
+        queue_matcher    compares the kernel's queue with the journal's
+        mappings         effects of calls, forks and ends of address spaces on pages
+        state            pages and their mappings, the queue and the journal so far
+        lines            the journal's latest lines, and older ones on disk
     queue_order      the order of a queue's pages, whatever their sizes
-    journal_file     the journal as a file, and its check
-    outputs          the output files
+    outputs          the journal as a file, its check, and the output files
     tampering        altered copies of a journal
     workload.c  threads that make, divide and drop huge pages
     __main__    recordings, one after another, and what is printed

@@ -6,11 +6,12 @@ import os
 import signal
 import subprocess
 import time
-from types import FrameType, TracebackType
-from typing import Any, Callable, Sequence
+from contextlib import ExitStack, suppress
+from typing import Callable, Sequence
 
 from ..common.errors import RunFailed, signals_wait
-from ..common.files import read, write
+from ..common.files import write
+from ..common.guardian import folders_below, members
 from ..common.keeper import Keeper
 from ..common.text import escape
 from ..common.user import User
@@ -24,22 +25,16 @@ HELD = 100  # processes that are held at a time
 class Interrupts:
     """While it is open, SIGINT and SIGTERM are noted (`name`) and don't end the tool; a second SIGINT does."""
 
-    def __init__(self) -> None:
-        self.name = ""
-        self._former: dict[signal.Signals, Any] = {}
-
     def __enter__(self) -> Interrupts:
-        for each in (signal.SIGINT, signal.SIGTERM):
-            self._former[each] = signal.signal(each, self._note)
+        self.name = ""
+        self._former = {each: signal.signal(each, self._note) for each in (signal.SIGINT, signal.SIGTERM)}
         return self
 
-    def __exit__(
-        self, kind: type[BaseException] | None, error: BaseException | None, trace: TracebackType | None
-    ) -> None:
+    def __exit__(self, *_: object) -> None:
         for each, former in self._former.items():
             signal.signal(each, former)
 
-    def _note(self, number: int, _frame: FrameType | None) -> None:
+    def _note(self, number: int, _frame: object) -> None:
         if self.name and number == signal.SIGINT:
             raise KeyboardInterrupt
         self.name = signal.Signals(number).name
@@ -48,10 +43,9 @@ class Interrupts:
 class Commands:
     """Children in control groups. `take` is called repeatedly while they run."""
 
-    def __init__(self, keeper: Keeper, take: Callable[[], None]) -> None:
-        self._keeper, self._take = keeper, take
+    def __init__(self, keeper: Keeper, groups: Sequence[str], take: Callable[[], None]) -> None:
+        self._keeper, self._groups, self._take = keeper, groups, take
         self._children: list[subprocess.Popen[bytes]] = []
-        self._groups: list[str] = []
         self.has_inner_groups = False  # their queues aren't recorded
 
     def start(self, words: Sequence[str], group: str, user: User | None) -> None:
@@ -73,7 +67,6 @@ class Commands:
             raise RunFailed(f"{escape(words[0])} can't be started: {reason}") from error
         self._keeper.own(child.pid)
         self._children.append(child)
-        self._groups.append(group)
 
     def is_running(self) -> bool:
         """Returns whether one of them runs."""
@@ -84,7 +77,7 @@ class Commands:
         for sent in (signal.SIGTERM, signal.SIGKILL):
             self._send(sent)
             until = time.monotonic() + PATIENCE
-            while (self.is_running() or self._members()) and time.monotonic() < until:
+            while (self.is_running() or any(map(members, self._folders()))) and time.monotonic() < until:
                 time.sleep(PAUSE)
                 self._take()
                 if sent is signal.SIGKILL:
@@ -92,63 +85,36 @@ class Commands:
 
     def statuses(self) -> list[str]:
         """Returns how each of them ended."""
-        out = []
-        for child in self._children:
-            status = child.returncode
-            if status is None:
-                out.append("still runs")
-            else:
-                out.append(f"ended with status {status}" if status >= 0 else f"was killed by {_signal_name(-status)}")
-        return out
+        statuses = [child.returncode for child in self._children]
+        return ["still runs" if each is None else f"ended with status {each}" if each >= 0 else f"was killed by {_signal_name(-each)}"
+                for each in statuses]
 
     def look_for_groups(self) -> None:
         """Notes in `has_inner_groups` whether a command has made control groups in its own."""
-        for group in set(self._groups):
-            try:
-                self.has_inner_groups = self.has_inner_groups or os.stat(group).st_nlink > LINKS
-            except OSError:
-                continue
+        with suppress(OSError):
+            self.has_inner_groups = self.has_inner_groups or any(os.stat(group).st_nlink > LINKS for group in self._groups)
 
-    def _members(self) -> list[int]:
-        """Returns the processes of the groups, and of those that the commands have made in them."""
-        out: list[int] = []
-        folders = list(set(self._groups))
-        while folders:
-            folder = folders.pop()
-            try:
-                out += [int(number) for number in read(f"{folder}/cgroup.procs").split() if int(number) > 0]
-                folders += [each.path for each in os.scandir(folder) if each.is_dir(follow_symlinks=False)]
-            except OSError:
-                continue
-        return out
+    def _folders(self) -> list[str]:
+        """Returns the groups, and those that the commands have made in them."""
+        return [folder for group in self._groups for folder in folders_below(group)]
 
     def _send(self, number: signal.Signals) -> None:
         """Signals all processes of the groups, and the commands wherever they are, which nobody else reaps. A process is held by its
-        descriptor while the groups are looked up once more, so that the signal reaches no other that has its number."""
-        members = self._members()
-        for first in range(0, len(members), HELD):
-            held = {process: open_process(process) for process in members[first : first + HELD]}
-            still = {*self._members()}
-            for process, descriptor in held.items():
-                if descriptor is None:
-                    continue
-                try:
-                    if process in still:
-                        signal.pidfd_send_signal(descriptor, number)
-                except OSError:
-                    pass
-                finally:
-                    os.close(descriptor)
+        descriptor while its group is looked up once more, so that the signal reaches no other that has its number."""
+        for folder in self._folders():
+            processes = members(folder)
+            for first in range(0, len(processes), HELD):
+                with ExitStack() as stack:
+                    held = {}
+                    for process in processes[first : first + HELD]:
+                        with suppress(OSError):  # it has ended
+                            held[process] = os.pidfd_open(process)
+                            stack.callback(os.close, held[process])
+                    for process in held.keys() & {*members(folder)}:
+                        with suppress(OSError):
+                            signal.pidfd_send_signal(held[process], number)
         for child in self._children:
             child.send_signal(number)  # nothing where it has ended
-
-
-def open_process(number: int) -> int | None:
-    """Returns a descriptor of a process; None where it has ended, or can't be held."""
-    try:
-        return os.pidfd_open(number)
-    except OSError:
-        return None
 
 
 def _signal_name(number: int) -> str:

@@ -1,81 +1,77 @@
-"""The files that a recording writes: made before it begins, and removed again where nothing was written."""
+"""The journal as a file, its check, and the files that a recording writes."""
 
 from __future__ import annotations
 
-import json
 import os
-from typing import IO, Iterable
+from argparse import Namespace
+from typing import IO, Iterable, Sequence
 
+from ..common.checker import JournalChecker
 from ..common.errors import InputFault, RunFailed
 from ..common.files import NewFile
-from ..common.text import escape
-from .journal_file import JournalFile
-from .options import RecordOptions
-from .store import Store
+from ..common.journal import Node, journal_lines
+from ..common.text import escape, text_lines
+from .scratch import ScratchFile
+
+SHOWN = 300  # letters of a line that is printed
 
 
-class Output:
-    """A new file of a name."""
+class JournalFile(ScratchFile):
+    """A journal in an unnamed temporary file."""
 
-    def __init__(self, path: str) -> None:
-        self._path, self._new = path, NewFile(path)
-        self._file: IO[bytes] = self._new.file.buffer
+    def __init__(self, nodes: Sequence[Node]) -> None:
+        super().__init__("the journal")
+        self.append_lines(journal_lines(nodes))
 
-    def begin(self) -> IO[bytes]:
-        """Returns the file, empty."""
-        self._file.seek(0)
-        self._file.truncate()
-        return self._file
+    def line(self, number: int) -> str:
+        """Returns a line, counted from 1; "" where there is none."""
+        return next((escape(line)[:SHOWN] for at, line in enumerate(self.lines(), 1) if at == number), "")
 
-    def close(self) -> None:
-        """Closes the file, and removes it where nothing was written."""
-        try:
-            self._file.flush()
-            if os.fstat(self._file.fileno()).st_size == 0:
-                self._new.remove()
-            self._new.close()
-        except OSError as error:
-            raise RunFailed(f"{escape(self._path)} can't be written: {error.strerror}") from error
+    def check(self, events: int, by: JournalChecker) -> tuple[bool, str, list[str]]:
+        """Returns whether the journal is legal, which it isn't without events, the verdict in a line, and lines that explain why it is
+        illegal. RunFailed where the checker doesn't accept it."""
+        if not events:
+            return False, "empty: no huge page was followed", []
+        verdict = by.check(self.descriptor)
+        if not verdict.legal and verdict.line is None:
+            raise RunFailed(f"{escape(by.path)} doesn't take the journal of {self.size} bytes: {escape(verdict.text)}")
+        line = f": {self.line(verdict.line)}" if verdict.line and not verdict.why else ""
+        return verdict.legal, f"{verdict.text}{line} ({events} events)", [escape(each) for each in text_lines(verdict.why)]
 
 
 class Outputs:
-    """The files of --out, --times and --records, of the last one for each of a number of queues."""
+    """The files of --out, --times and --records, of the last one for each of a number of queues: made before the recording begins,
+    and removed again where nothing was written."""
 
-    def __init__(self, options: RecordOptions, queues: int) -> None:
-        self._journal: Output | None = None
-        self._times: Output | None = None
-        self._records: list[Output] = []
+    def __init__(self, options: Namespace, queues: int) -> None:
+        names = {"journal": options.out, "times": options.times}
+        for number in range(queues if options.records is not None else 0):
+            names[f"records {number}"] = options.records + (f".{number + 1}" if number else "")
+        self._files: dict[str, tuple[str, NewFile]] = {}
         try:
-            self._journal = Output(options.out) if options.out is not None else None
-            self._times = Output(options.times) if options.times is not None else None
-            if options.records is not None:
-                for number in range(1, queues + 1):
-                    self._records.append(Output(options.records + (f".{number}" if number > 1 else "")))
+            for what, path in names.items():
+                if path is not None:
+                    self._files[what] = path, NewFile(path)
         except InputFault:
             self.close()
             raise
 
-    def write_journal(self, journal: JournalFile) -> None:
-        """Writes the journal, and replaces an earlier one."""
-        if self._journal:
-            journal.copy_to(self._journal.begin())
-
-    def write_times(self, times: Iterable[int]) -> None:
-        """Writes the time of each event of the journal, given in ns, in seconds, and replaces earlier ones."""
-        if self._times:
-            file = self._times.begin()
-            file.writelines(b"%d.%09d\n" % divmod(time, 10 ** 9) for time in times)
-            file.flush()
-
-    def write_records(self, stores: list[Store]) -> None:
-        """Writes the records of each queue, a line of JSON for each, and replaces earlier ones."""
-        for output, store in zip(self._records, stores):
-            file = output.begin()
-            for record in store.records():
-                file.write(json.dumps(record.to_json()).encode("ascii") + b"\n")
+    def write(self, what: str, pieces: Iterable[bytes]) -> None:
+        """Writes an output, if it is wanted, and replaces what was in it."""
+        if what in self._files:
+            file: IO[bytes] = self._files[what][1].file.buffer
+            file.seek(0)
+            file.truncate()
+            file.writelines(pieces)
             file.flush()
 
     def close(self) -> None:
-        """Closes all files."""
-        for output in filter(None, [*self._records, self._journal, self._times]):
-            output.close()
+        """Closes all files, and removes those into which nothing was written."""
+        for path, new in self._files.values():
+            try:
+                new.file.flush()
+                if os.fstat(new.file.fileno()).st_size == 0:
+                    new.remove()
+                new.close()
+            except OSError as error:
+                raise RunFailed(f"{escape(path)} can't be written: {error.strerror}") from error

@@ -77,8 +77,7 @@ class QueueOrder:
             return  # it was begun before the last one
         places = {folio: place for place, folio in enumerate(queue)}
         for first, second in self._suspects:
-            wrong = not self._changed & {first, second} and places.get(first, len(queue)) < places.get(second, 0)
-            self.tallies[WRONG_SCANS] += wrong
+            self.tallies[WRONG_SCANS] += not self._changed & {first, second} and places.get(first, len(queue)) < places.get(second, 0)
         known = [folio for folio in queue if folio in self._sizes]
         unknown = {*queue} - {*known} - {*self._known} - self._changed
         if unknown:  # Linux 7 puts the queue of a group that ends before that of the group above it
@@ -92,11 +91,9 @@ class QueueOrder:
         self._time, self._known, self._changed, self._suspects = time, list(queue), set(), []
 
     def _begin_scan(self, record: Record) -> None:
-        total, freeable = record.values[:2]
-        count = sum(count for _, count in batches_of(total, freeable))
+        count = sum(count for _, count in batches_of(*record.values[:2]))
         queue = list(record.queue or ())
-        scan = _Scan(queue, count, {folio: self._sizes.get(folio, 0) for folio in queue})
-        self._scans[record.task] = scan
+        scan = self._scans[record.task] = _Scan(queue, count, {folio: self._sizes.get(folio, 0) for folio in queue})
         if len(self._scans) > 1 or record.queue is None:
             for each in self._scans.values():
                 each.is_alone = False
@@ -121,13 +118,11 @@ class QueueOrder:
             self.tallies[MIXED] += 1
         places = {folio: place for place, folio in enumerate(record.queue)}
         stay = [folio for folio in rest if folio in places]
-        split = any(self._is_split(folio, scan) for folio in rest if folio not in places)
+        split = any(  # base pages of it were freed
+            folio <= frame < folio + (self._page_size << scan.sizes[folio])
+            for folio in rest if folio not in places for frame in scan.freed)
         if split or [places[folio] for folio in stay] != sorted(places[folio] for folio in stay):
             self.tallies[WRONG_SCANS] += 1
         elif stay:  # a page that is being freed may stay where it is for a moment: the next copy decides
             early = [folio for folio in taken if folio in places and places[folio] < places[stay[-1]]]
             self._suspects = [(folio, stay[-1]) for folio in early[:1]]
-
-    def _is_split(self, folio: int, scan: _Scan) -> bool:
-        """Returns whether a scan freed base pages of a page."""
-        return any(folio <= frame < folio + (self._page_size << scan.sizes[folio]) for frame in scan.freed)

@@ -2,70 +2,131 @@
 
 from __future__ import annotations
 
+import ctypes
+import errno
 import os
 import threading
 import time
+from argparse import Namespace
+from contextlib import suppress
 from dataclasses import dataclass
-from typing import Sequence
+from typing import Iterator, Sequence
 
+from ..common.errors import RunFailed
 from ..common.files import COLLAPSE_SLEEP, COMPACT, PMD_ORDER, PTES_NONE, SWITCH, read, size_folder, write
 from ..common.groups import Groups
+from ..common.guardian import members
 from ..common.keeper import Keeper
-from ..common.kernel_library import Counters
+from ..common.kernel_library import Counters, Settings, load_library, open_programs
 from ..common.kernel_memory import KernelMemory
 from ..common.numa import numa_frames
+from ..common.reader import Reader
+from ..common.second_look import SecondLook
 from .commands import PAUSE, Commands, Interrupts
-from .contents import ContentLooks
-from .options import RecordOptions
+from .records import Kind, Record, pack_record
 from .scratch import FOLDER
-from .state import Settings
 from .store import Store
-from .trace_programs import RING, TracePrograms
 
+RING = 1 << 24  # bytes of all rings; all of them count as resident
 QUIET = 3600000  # milliseconds between khugepaged's rounds
 AFTER = 0.05  # seconds for what comes after the commands' end
+MOST_MEMORY = 64  # MiB of one look at contents
+
+
+class Track:
+    """The BPF programs (linux/kernel/record.bpf.c) and the records of one queue of a control group, until `close`. `folios`: where
+    those of the queue's NUMA node are; none: those of all nodes. `lacking` names what this kernel doesn't report."""
+
+    def __init__(self, memory: KernelMemory, path: str, node: int | None, orders: Sequence[int], room: int, folder: str) -> None:
+        self.path, self.store = path, Store(folder)
+        self.folios: tuple[range, ...] = ()
+        if node is not None and len(memory.numa_nodes()) > 1:
+            self.folios = tuple(range(memory.folio(each.start), memory.folio(each.stop)) for each in numa_frames()[node])
+        settings = Settings(
+            memory.group(path), memory.first_page(), memory.scan_function(), memory.queue_lists(),
+            sum(1 << order for order in orders), room, -1 if node is None else node,
+        )
+        self._library = load_library()
+        self._recorder, self.lacking = open_programs("thp_record_open", ctypes.byref(settings))
+
+    def counters(self) -> Counters:
+        """Returns how many records were lost, runs were left out, and huge pages were allocated in inner groups; and whether there
+        were too many address spaces."""
+        found = Counters()
+        self._library.thp_record_counters(self._recorder, ctypes.byref(found))
+        return found
+
+    def take(self, room: int) -> bool:
+        """Moves the records since the last call to the store, which may grow by so many bytes: taking them must not be slower than
+        their making. Returns whether there was room for all."""
+        count = ctypes.c_long()
+        failed = self._library.thp_record_take(self._recorder, self.store.descriptor, max(room, 0), ctypes.byref(count))
+        if failed not in (0, -errno.EXFULL):
+            raise RunFailed(f"the records can't be written to disk: {os.strerror(-failed)}")
+        self.store.note_records(count.value)
+        return not failed
+
+    def close(self) -> None:
+        """Removes the programs and the ring."""
+        self._library.thp_record_close(self._recorder)
+
+
+class ContentLooks:
+    """Looks at the contents of control groups' huge pages, at one as often as at the other: which subpages have data, and which are
+    zero-filled."""
+
+    def __init__(self, memory: KernelMemory, paths: Sequence[str], orders: Sequence[int], every: float) -> None:
+        self._memory, self._paths, self._orders, self._every = memory, paths, orders, every
+        self._due = time.monotonic() + every
+
+    def look_if_due(self) -> dict[str, list[bytes]]:
+        """Returns for each group, by its path, the records of what its pages contain; nothing before the time of the next look."""
+        if time.monotonic() < self._due:
+            return {}
+        out = {path: [pack_record(record) for record in self._look_at(path)] for path in self._paths}
+        self._due = time.monotonic() + self._every
+        return out
+
+    def _look_at(self, path: str) -> Iterator[Record]:
+        began = time.monotonic_ns()
+        reader = Reader(self._memory, min(self._orders) < PMD_ORDER, 1, memory=MOST_MEMORY)
+        try:
+            reader.read_processes([number for number in members(path) if number != os.getpid()])
+            reader.read_all()
+            SecondLook(reader).take()
+            now = time.monotonic_ns()
+            for frame, folio in reader.folios.items():
+                if folio.order in self._orders:
+                    values = (self._memory.folio(frame), began, *(0,) * 7)
+                    yield Record(Kind.CONTENTS, now, 0, 0, values, None, (folio.known & ~folio.zero, folio.zero))
+        finally:
+            reader.close()
 
 
 @dataclass(frozen=True)
 class Recording:
     """The records of each queue, and what else is known of them."""
 
-    stores: list[Store]
-    folios: list[tuple[range, ...]]  # where the folios of each queue's NUMA node are; none: those of all nodes
-    lost: int  # records that found no room
-    missed: int  # runs of trace programs that the kernel left out
-    is_full: bool  # whether the records reached the limit of --disk
+    tracks: list[Track]
+    gaps: list[str]  # what makes the records incomplete, in words
     statuses: list[str]  # how the commands ended
     ended: str  # why they were ended; "" where they ended by themselves
     lacking: list[str]  # what this kernel doesn't report
     threshold: int | None  # of zero-filled subpages; None: the switch was off
 
-    @property
-    def count(self) -> int:
-        """All records."""
-        return sum(store.count for store in self.stores)
 
-    def gaps(self) -> list[str]:
-        """Returns what makes the records incomplete, in words."""
-        out = [f"{self.lost} records were lost"] if self.lost else []
-        out += [f"the kernel left out {self.missed} runs of the trace programs"] if self.missed else []
-        return [*out, "the records reached the limit of --disk"] if self.is_full else out
-
-
-@dataclass(frozen=True)
-class Track:
-    """The records of one queue while they come."""
-
-    path: str
-    numa_node: int | None
-    store: Store
-    programs: TracePrograms
+def name_gaps(lost: int, missed: int, is_full: bool) -> list[str]:
+    """Returns what makes records incomplete, in words: those that found no room, runs of trace programs that the kernel left out, the
+    limit of --disk."""
+    out = [f"{lost} records were lost"] if lost else []
+    out += [f"the kernel left out {missed} runs of the trace programs"] if missed else []
+    return [*out, "the records reached the limit of --disk"] if is_full else out
 
 
 class Taker:
     """Takes the records of all queues, until they take so many bytes on disk (`is_full`)."""
 
-    def __init__(self, tracks: list[Track], looks: ContentLooks | None, most: int) -> None:
+    def __init__(self, tracks: Sequence[Track], looks: ContentLooks | None, most: int) -> None:
         self._tracks, self._looks, self._most = tracks, looks, most
         self.is_full = False
 
@@ -76,24 +137,23 @@ class Taker:
     def take(self) -> None:
         """Takes what has come since the last call."""
         self._take_records()
-        if self._looks and self._looks.is_due():
-            found = self._looks.look()
+        found = self._looks.look_if_due() if self._looks else {}
+        if found:
             self._take_records()
-            for track in self._tracks:
-                for record in found[track.path] if not self.is_full else ():
-                    track.store.append(record)
+        for track in self._tracks:
+            for record in found.get(track.path, ()) if not self.is_full else ():
+                track.store.append(record)
 
     def _take_records(self) -> None:
         for track in self._tracks:
             room = self._most - sum(each.store.size for each in self._tracks)
-            if not self.is_full and not track.programs.read(track.store, room):
-                self.is_full = True
+            self.is_full = self.is_full or not track.take(room)
 
 
 class Recorder:
     """Makes control groups, and records commands that run in them."""
 
-    def __init__(self, options: RecordOptions, keeper: Keeper, memory: KernelMemory) -> None:
+    def __init__(self, options: Namespace, keeper: Keeper, memory: KernelMemory) -> None:
         self._options, self._keeper, self._memory = options, keeper, memory
         if options.collapse is not None or not options.command:
             keeper.set(COLLAPSE_SLEEP, QUIET if options.collapse is None else options.collapse)
@@ -102,55 +162,32 @@ class Recorder:
                 keeper.set(SWITCH, int(options.underused != "off"))
             if options.underused != "off":
                 keeper.set(PTES_NONE, options.underused)
-            for order in options.orders:
+            for order in options.order:
                 keeper.set(f"{size_folder(order)}/enabled", "madvise")
         self._groups = Groups(keeper, "thprecord")
         self._paths = [self._groups.add(f"node{number}") for number in range(options.groups)]
-        on = os.path.exists(SWITCH) and read(SWITCH).strip() == "1"
-        self._threshold: int | None = int(read(PTES_NONE)) if on else None
 
     def record(self, commands: list[list[str]]) -> Recording:
         """Records these commands in each group until all have ended, or have to end."""
-        folder = os.path.dirname(os.path.abspath(self._options.records)) if self._options.records else FOLDER
-        nodes = self._memory.numa_nodes()
+        options, nodes = self._options, self._memory.numa_nodes()
+        threshold = int(read(PTES_NONE)) if os.path.exists(SWITCH) and read(SWITCH).strip() == "1" else None
+        folder = os.path.dirname(os.path.abspath(options.records)) if options.records else FOLDER
         room = 1 << (RING // (len(self._paths) * len(nodes))).bit_length() - 1
+        looks = None
+        if options.contents is not None:
+            looks = ContentLooks(self._memory, self._paths, options.order, options.contents)
         tracks: list[Track] = []
         try:
             for path in self._paths:
-                group = self._memory.group(path)
                 for node in nodes:
-                    programs = TracePrograms(self._memory, group, node, self._options.orders, room)
-                    tracks.append(Track(path, node, Store(folder), programs))
-            looks: ContentLooks | None = None
-            if self._options.contents is not None:
-                looks = ContentLooks(self._memory, self._paths, self._options.orders, self._options.contents)
-            taker = Taker(tracks, looks, self._options.disk)
-            running = Commands(self._keeper, taker.take)
+                    tracks.append(Track(self._memory, path, node, options.order, room, folder))
+            taker = Taker(tracks, looks, options.disk)
+            running = Commands(self._keeper, self._paths, taker.take)
             ended = self._run(running, commands, taker)
-            return self._describe(tracks, running, taker.is_full, ended)
+            return describe(tracks, running, taker.is_full, ended, threshold)
         finally:
             for track in tracks:
-                track.programs.close()
-
-    def _describe(self, tracks: list[Track], running: Commands, is_full: bool, ended: str) -> Recording:
-        lacking, counters = list(tracks[0].programs.lacking), [track.programs.counters() for track in tracks]
-        inner = count_inner_pages([track.path for track in tracks], counters)
-        if inner or running.has_inner_groups:
-            lacking.append(f"control groups were made in a recorded one: {inner} huge pages of their tasks aren't followed")
-        if any(each.unfiltered for each in counters):
-            lacking.append("more address spaces than can be known: all records were kept from then on")
-        return Recording(
-            [track.store for track in tracks], [self._folios_on(track.numa_node) for track in tracks],
-            sum(each.lost for each in counters), sum(each.missed for each in counters), is_full,
-            running.statuses(), ended, lacking, self._threshold,
-        )
-
-    def _folios_on(self, numa_node: int | None) -> tuple[range, ...]:
-        """Returns where the folios of a NUMA node are; none: those of all nodes are wanted."""
-        if numa_node is None or len(self._memory.numa_nodes()) == 1:
-            return ()
-        folio = self._memory.folio
-        return tuple(range(folio(each.start), folio(each.stop)) for each in numa_frames()[numa_node])
+                track.close()
 
     def _run(self, running: Commands, commands: list[list[str]], taker: Taker) -> str:
         """Runs the commands to their end; returns why they were ended."""
@@ -186,9 +223,7 @@ class Recorder:
             return f"after {options.seconds:g} seconds"
         if options.events is not None and taker.count() >= options.events:
             return f"after {options.events} events"
-        if taker.is_full:
-            return "at the limit of --disk"
-        return ""
+        return "at the limit of --disk" if taker.is_full else ""
 
     def _reclaim(self, over: threading.Event) -> None:
         """Reclaims again and again, beside the reader of records, which must not wait for it."""
@@ -196,24 +231,20 @@ class Recorder:
             for path in self._paths:
                 self._groups.reclaim(path)
             if self._options.compact:
-                try:
+                with suppress(OSError):  # the next round tries it again
                     write(COMPACT, 1)
-                except OSError:
-                    pass  # the next round tries it again
 
 
-def count_inner_pages(paths: Sequence[str], counters: Sequence[Counters]) -> int:
-    """Returns how many huge pages were allocated in control groups below the recorded ones, by the path of each queue's group:
-    the programs of each of a group's queues count all of them."""
-    counts: dict[str, int] = {}
-    for path, each in zip(paths, counters):
-        counts[path] = max(counts.get(path, 0), each.inner_pages)
-    return sum(counts.values())
-
-
-def settings_for(
-    recording: Recording, options: RecordOptions, order: int, page_size: int, folios: tuple[range, ...]
-) -> Settings:
-    """Returns the settings of a journal of this order: only pages of PMD size can be underused."""
-    threshold = recording.threshold if order == PMD_ORDER else None
-    return Settings(order, threshold, options.straighten, page_size, folios)
+def describe(tracks: list[Track], running: Commands, is_full: bool, ended: str, threshold: int | None) -> Recording:
+    """Returns a recording that has ended. Each queue's programs count all huge pages below its group."""
+    lacking, counters = list(tracks[0].lacking), [track.counters() for track in tracks]
+    inner_pages: dict[str, int] = {}
+    for track, each in zip(tracks, counters):
+        inner_pages[track.path] = max(inner_pages.get(track.path, 0), each.inner_pages)
+    inner = sum(inner_pages.values())
+    if inner or running.has_inner_groups:
+        lacking.append(f"control groups were made in a recorded one: {inner} huge pages of their tasks aren't followed")
+    if any(each.unfiltered for each in counters):
+        lacking.append("more address spaces than can be known: all records were kept from then on")
+    gaps = name_gaps(sum(each.lost for each in counters), sum(each.missed for each in counters), is_full)
+    return Recording(tracks, gaps, running.statuses(), ended, lacking, threshold)

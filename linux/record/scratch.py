@@ -22,11 +22,7 @@ class ScratchFile:
             self._file: IO[bytes] = tempfile.TemporaryFile(dir=folder, buffering=0)
         except OSError as error:
             raise RunFailed(f"no temporary file in {folder}: {error.strerror}") from error
-
-    @property
-    def descriptor(self) -> int:
-        """The open file."""
-        return self._file.fileno()
+        self.descriptor = self._file.fileno()
 
     @property
     def size(self) -> int:
@@ -35,12 +31,17 @@ class ScratchFile:
 
     def append(self, data: bytes) -> None:
         """Writes bytes at its end."""
+        self.overwrite(os.lseek(self.descriptor, 0, os.SEEK_END), data)
+        os.lseek(self.descriptor, 0, os.SEEK_END)
+
+    def overwrite(self, at: int, data: bytes) -> None:
+        """Writes bytes at a place."""
         try:
-            os.lseek(self.descriptor, 0, os.SEEK_END)
             while data:
-                data = data[os.write(self.descriptor, data) :]
+                done = os.pwrite(self.descriptor, data, at)
+                at, data = at + done, data[done:]
         except OSError as error:
-            raise self.failed(error) from error
+            raise RunFailed(f"{self._what} can't be written to disk: {error.strerror}") from error
 
     def append_lines(self, lines: Iterable[str]) -> None:
         """Writes ASCII lines, given without their ends."""
@@ -57,10 +58,7 @@ class ScratchFile:
     def pieces(self) -> Iterator[bytes]:
         """Yields its content."""
         at = 0
-        while True:
-            piece = os.pread(self.descriptor, PIECE, at)
-            if not piece:
-                return
+        while piece := os.pread(self.descriptor, PIECE, at):
             yield piece
             at += len(piece)
 
@@ -70,10 +68,6 @@ class ScratchFile:
         for piece in self.pieces():
             *lines, rest = (rest + piece).split(b"\n")
             yield from lines
-
-    def failed(self, error: OSError) -> RunFailed:
-        """Returns what a refused write means."""
-        return RunFailed(f"{self._what} can't be written to disk: {error.strerror}")
 
     def close(self) -> None:
         """Removes it."""

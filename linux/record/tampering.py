@@ -5,7 +5,7 @@ from __future__ import annotations
 import enum
 import random
 from collections import Counter
-from dataclasses import dataclass
+from typing import NamedTuple
 
 from ..common.checker import JournalChecker
 from ..common.text import text_lines
@@ -19,8 +19,7 @@ class Alteration(enum.Enum):
     DOUBLED = "an event doubled"
 
 
-@dataclass(frozen=True)
-class AlteredCopy:
+class AlteredCopy(NamedTuple):
     """An altered copy, and the line (from 1) at which it differs first."""
 
     alteration: Alteration
@@ -28,26 +27,15 @@ class AlteredCopy:
     text: str
 
 
-def _word(line: str) -> str:
-    return "queued" if " queued " in line else line.split(" ")[1]
-
-
-def find_places(lines: list[str], alteration: Alteration) -> list[int]:
-    """Returns the lines that an alteration can change. Exchanged are neighbours that are both taken, or both put back."""
-    out = []
-    for at in range(2, len(lines) - 2):
-        word = _word(lines[at])
-        alike = at + 1 < len(lines) - 2 and _word(lines[at + 1]) == word and word in ("taken", "back")
-        if word in QUEUE_WORDS and (alteration is not Alteration.EXCHANGED or alike):
-            out.append(at)
-    return out
-
-
 def alter_journal(text: str, chance: random.Random) -> AlteredCopy | None:
-    """Returns a copy with one event of the queue altered; None where the alteration isn't possible."""
-    lines = text.split("\n")
-    alteration = chance.choice(list(Alteration))
-    found = find_places(lines, alteration)
+    """Returns a copy with one event of the queue altered; None where the alteration isn't possible. Exchanged are neighbours that are
+    both taken, or both put back."""
+    lines, alteration = text.split("\n"), chance.choice(list(Alteration))
+    words = {at: "queued" if " queued " in lines[at] else lines[at].split(" ")[1] for at in range(2, len(lines) - 2)}
+    if alteration is Alteration.EXCHANGED:
+        found = [at for at, word in words.items() if word in ("taken", "back") and words.get(at + 1) == word]
+    else:
+        found = [at for at, word in words.items() if word in QUEUE_WORDS]
     if not found:
         return None
     at = chance.choice(found)
@@ -60,9 +48,9 @@ def alter_journal(text: str, chance: random.Random) -> AlteredCopy | None:
     return AlteredCopy(alteration, at + 1, "\n".join(lines))
 
 
-def try_copies(text: str, by: JournalChecker, copies: int, seed: int) -> None:
+def try_copies(text: str, by: JournalChecker, copies: int) -> None:
     """Checks copies of a journal, and prints how many of them are illegal, and the alteration of each legal one."""
-    chance = random.Random(seed)
+    chance = random.Random(1)
     made: Counter[Alteration] = Counter()
     illegal: Counter[Alteration] = Counter()
     for copy in filter(None, (alter_journal(text, chance) for _ in range(copies))):

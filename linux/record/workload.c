@@ -25,6 +25,7 @@ enum { BASE = 4096, PLACES = 6, MOST_THREADS = 64, STEPS = 12, COLLAPSES = 2, AR
 #endif
 
 static int threads, steps, seed, order, zeros, collapse, areas;
+static size_t size; /* bytes of a page */
 
 struct place {
     unsigned char *page;
@@ -35,19 +36,33 @@ struct range {
     size_t first, length; /* bytes */
 };
 
+static unsigned char *aligned(unsigned char *at)
+{
+    return (unsigned char *)(((size_t)at + size - 1) & -size);
+}
+
+/* an aligned place that nothing uses, with a hole on each side, so that no other area joins one there */
+static unsigned char *find_place(size_t length)
+{
+    unsigned char *room = mmap(NULL, length + size + 2 * BASE, PROT_NONE, MAP_PRIVATE | MAP_ANONYMOUS, -1, 0);
+    if (room == MAP_FAILED)
+        exit(1);
+    return aligned(room + BASE);
+}
+
+static void new_area(unsigned char *at, size_t length)
+{
+    if (mmap(at, length, PROT_READ | PROT_WRITE, MAP_PRIVATE | MAP_ANONYMOUS | MAP_FIXED, -1, 0) == MAP_FAILED)
+        exit(1);
+}
+
 static void make(struct place *place, unsigned *chance)
 {
-    size_t size = (size_t)BASE << order;
-    /* a hole on each side, so that no other area joins the page's */
-    unsigned char *room = mmap(NULL, 2 * size + 2 * BASE, PROT_NONE, MAP_PRIVATE | MAP_ANONYMOUS, -1, 0);
-    unsigned char *at = (unsigned char *)(((size_t)room + BASE + size - 1) & -size);
-    unsigned char *page = mmap(at, size, PROT_READ | PROT_WRITE, MAP_PRIVATE | MAP_ANONYMOUS | MAP_FIXED, -1, 0);
-    if (room == MAP_FAILED || page == MAP_FAILED)
-        exit(1);
-    madvise(page, size, MADV_HUGEPAGE);
-    memset(page, 90, zeros ? (size_t)BASE * (rand_r(chance) % (1 << order)) + 1 : size);
-    place->page = page;
+    place->page = find_place(size);
     place->pin = -1;
+    new_area(place->page, size);
+    madvise(place->page, size, MADV_HUGEPAGE);
+    memset(place->page, 90, zeros ? (size_t)BASE * (rand_r(chance) % (1 << order)) + 1 : size);
 }
 
 static void unpin(struct place *place)
@@ -90,23 +105,11 @@ static void in_a_child(struct place *place, struct range range)
     waitpid(child, NULL, 0);
 }
 
-static void replace(struct place *place, struct range range)
-{
-    void *at = place->page + range.first;
-    if (mmap(at, range.length, PROT_READ | PROT_WRITE, MAP_PRIVATE | MAP_ANONYMOUS | MAP_FIXED, -1, 0) == MAP_FAILED)
-        exit(1);
-}
-
 /* to a place that is aligned as the page was, or to any */
 static void move(struct place *place, unsigned *chance)
 {
-    size_t size = (size_t)BASE << order;
     size_t beside = rand_r(chance) % 2 ? (size_t)BASE * (rand_r(chance) % (1 << order)) : 0;
-    unsigned char *room = mmap(NULL, 3 * size + 2 * BASE, PROT_NONE, MAP_PRIVATE | MAP_ANONYMOUS, -1, 0);
-    unsigned char *at = (unsigned char *)(((size_t)room + BASE + size - 1) & -size) + beside, *page;
-    if (room == MAP_FAILED)
-        exit(1);
-    page = mremap(place->page, size, size, MREMAP_MAYMOVE | MREMAP_FIXED, at);
+    unsigned char *page = mremap(place->page, size, size, MREMAP_MAYMOVE | MREMAP_FIXED, find_place(2 * size) + beside);
     if (page != MAP_FAILED)
         place->page = page;
 }
@@ -114,7 +117,6 @@ static void move(struct place *place, unsigned *chance)
 /* the end of its area goes; then it grows, where it is or elsewhere */
 static void resize(struct place *place, struct range range)
 {
-    size_t size = (size_t)BASE << order;
     unsigned char *page;
     if (mremap(place->page, size, range.length, 0) == MAP_FAILED)
         return;
@@ -128,8 +130,7 @@ static void resize(struct place *place, struct range range)
 /* a page of which a part goes, and then the rest, as the program break goes down */
 static void by_break(struct range range)
 {
-    size_t size = (size_t)BASE << order;
-    unsigned char *old = sbrk(0), *at = (unsigned char *)(((size_t)old + BASE + size - 1) & -size);
+    unsigned char *old = sbrk(0), *at = aligned(old + BASE);
     if (brk(at + size + BASE))
         return;
     madvise(at, size, MADV_HUGEPAGE);
@@ -142,7 +143,6 @@ static void by_break(struct range range)
 
 static struct range a_range(unsigned *chance)
 {
-    size_t size = (size_t)BASE << order;
     struct range range;
     range.first = (size_t)BASE * (rand_r(chance) % (1 << order));
     range.length = (size_t)BASE * (1 + rand_r(chance) % (1 << order));
@@ -154,11 +154,8 @@ static struct range a_range(unsigned *chance)
 /* pages side by side, of each of which a part goes, and then all by one call */
 static void in_a_row(unsigned *chance)
 {
-    size_t size = (size_t)BASE << order;
-    unsigned char *room = mmap(NULL, (ROW + 1) * size, PROT_NONE, MAP_PRIVATE | MAP_ANONYMOUS, -1, 0);
-    unsigned char *at = (unsigned char *)(((size_t)room + size - 1) & -size);
-    if (room == MAP_FAILED || mprotect(at, ROW * size, PROT_READ | PROT_WRITE))
-        exit(1);
+    unsigned char *at = find_place(ROW * size);
+    new_area(at, ROW * size);
     madvise(at, ROW * size, MADV_HUGEPAGE);
     for (int i = 0; i < ROW; i++) {
         struct range range = a_range(chance);
@@ -171,7 +168,6 @@ static void in_a_row(unsigned *chance)
 
 static void step(struct place *place, unsigned *chance)
 {
-    size_t size = (size_t)BASE << order;
     struct range range = a_range(chance);
     int deed = rand_r(chance) % (STEPS + COLLAPSES * collapse + AREAS * areas);
     if (!place->page) {
@@ -203,7 +199,7 @@ static void step(struct place *place, unsigned *chance)
         madvise(place->page, size, MADV_COLLAPSE);
         break;
     case STEPS + COLLAPSES:
-        replace(place, range);
+        new_area(place->page + range.first, range.length);
         break;
     case STEPS + COLLAPSES + 1:
         move(place, chance);
@@ -241,6 +237,7 @@ int main(int count, char **words)
     steps = atoi(words[2]);
     seed = atoi(words[3]);
     order = atoi(words[4]);
+    size = (size_t)BASE << order;
     for (int i = 5; i < count; i++) {
         zeros |= !strcmp(words[i], "zeros");
         collapse |= !strcmp(words[i], "collapse");

@@ -4,12 +4,14 @@ from __future__ import annotations
 
 import gzip
 import json
+from dataclasses import replace
 from pathlib import Path
 from typing import Any, List
 
-from ..record.records import Kind, Record, pack_record, without_repeats
+from ..record.records import IN_FAULT, Kind, Record, pack_record, without_repeats
 from ..record.store import Store
 
+BY_FAULT, IN_NONE = 0, 2  # in the fault of the task's last FAULT record, as stored recordings have it; in no fault
 STORED = Path(__file__).resolve().parent / "stored"
 
 
@@ -27,10 +29,29 @@ def read_recording(name: str) -> List[Record]:
         return [record_from_json(json.loads(line)) for line in file]
 
 
+def with_faults(records: List[Record]) -> List[Record]:
+    """The records, with the fault of each allocation in it, as the programs send it."""
+    out, faults = [], {}
+    for record in records:
+        at = {Kind.ALLOC: 2, Kind.COPY: 1}.get(record.kind)
+        if record.kind is Kind.FAULT:
+            faults[record.task] = record
+        elif record.kind is Kind.ENTER:
+            faults.pop(record.task, None)
+        elif at and record.values[at] == BY_FAULT:
+            fault = faults.get(record.task)
+            own = (IN_FAULT, *fault.values[:2]) if fault and fault.space == record.space else (IN_NONE, 0, 0)
+            record = replace(record, values=(*record.values[:at], *own, *record.values[at + 3 :]))
+        if record.kind is Kind.COPY:
+            faults.pop(record.task, None)
+        out.append(record)
+    return out
+
+
 def stored(records: List[Record]) -> Store:
     """The records on disk, linked."""
     store = Store()
-    for record in records:
+    for record in with_faults(records):
         store.append(pack_record(record))
     store.link()
     return store

@@ -110,7 +110,7 @@ class AreasTest(unittest.TestCase):
     def test_a_page_that_moves_to_an_aligned_place(self) -> None:
         builder = self.move_page(OTHER)
         self.assertEqual(event_words(builder)[1:], ["splitpmd 0", "unmapsub 0 8 8 queued -"])
-        self.assertEqual([mapping.base for mapping in builder._state.spaces[SPACE].values()], [OTHER])
+        self.assertEqual([mapping.base for mapping in builder.spaces[SPACE].values()], [OTHER])
 
     def test_a_page_that_moves_to_another_place_loses_its_pmd_entry(self) -> None:
         records = Calls()
@@ -167,7 +167,7 @@ class RunningTest(unittest.TestCase):
         builder = build_journal(records)
         self.assertEqual(event_words(builder)[6:], [
             "unmapsub 0 8 504 freed 0-511", "taken 1", "split 1 0-7", "unmapsub 1 8 504 freed 8-511"])
-        self.assertEqual((builder.tallies["pages followed before their call's end"], builder.count_omitted()), (1, 0))
+        self.assertEqual((builder.tallies["pages followed before their call's end"], builder.left_out), (1, 0))
 
     def test_a_page_that_was_made_where_one_had_gone(self) -> None:
         """The range is another area by the time at which the call's end is recorded."""
@@ -179,7 +179,7 @@ class RunningTest(unittest.TestCase):
         records.call((MADVISE, PLACE, 8 * BASE, 4), 0, [third])
         builder = build_journal(records)
         self.assertEqual(event_words(builder)[-2:], ["splitpmd 2", "unmapsub 2 0 8 queued -"])
-        self.assertEqual(builder.count_omitted(), 0)
+        self.assertEqual(builder.left_out, 0)
 
     def test_a_page_that_was_made_where_one_has_moved_away(self) -> None:
         records = Calls()
@@ -200,7 +200,7 @@ class RunningTest(unittest.TestCase):
         records.add(Kind.FREE, [page, 9])
         builder = build_journal(records)
         self.assertEqual(event_words(builder)[3:], ["pin 0", "unmapsub 0 8 504 stays -", "unpin 0 freed 0-511"])
-        self.assertEqual(builder.count_omitted(), 0)
+        self.assertEqual(builder.left_out, 0)
 
     def test_a_call_that_reaches_no_page_hides_no_queue(self) -> None:
         records = Calls()

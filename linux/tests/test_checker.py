@@ -8,7 +8,7 @@ import random
 import tempfile
 import unittest
 from pathlib import Path
-from typing import Tuple
+from typing import List, Tuple
 from unittest import mock
 
 from ..common import checker as checkers, program as programs
@@ -18,8 +18,7 @@ from ..common.journal import journal_of
 from ..common.program import Program
 from ..common.text import text_lines
 from ..record.journal_builder import JournalBuilder
-from ..record.journal_file import JournalFile, JournalVerdict, check_journal
-from ..record.state import Settings
+from ..record.outputs import JournalFile
 from ..record.tampering import Alteration, alter_journal
 from .recordings import linked, read_recording
 
@@ -30,7 +29,7 @@ BUILT = programs.find("thpcheck", checkers.BUILT)
 
 def journal_of_one_thread() -> str:
     """The journal of a stored recording, which is legal."""
-    builder = JournalBuilder(Settings(9, None, True))
+    builder = JournalBuilder(9, None, True)
     builder.add_records(linked(read_recording("one_thread")))
     return builder.text()
 
@@ -45,12 +44,12 @@ def altered_copy() -> Tuple[str, int]:
             return copy.text, line
 
 
-def check_text(text: str, checker: Checker) -> JournalVerdict:
+def check_text(text: str, checker: Checker) -> Tuple[bool, str, List[str]]:
     """Returns the verdict on a journal's text, as thprecord gets it for its file."""
     nodes = journal_of(text)
     journal = JournalFile(nodes)
     try:
-        return check_journal(journal, sum(len(node.events) for node in nodes), checker)
+        return journal.check(sum(len(node.events) for node in nodes), checker)
     finally:
         journal.close()
 
@@ -69,22 +68,22 @@ class ExplainedTest(unittest.TestCase):
 
     def test_an_illegal_journal_is_explained(self) -> None:
         text, line = altered_copy()
-        verdict = check_text(text, self.checker(True))
-        self.assertEqual((verdict.legal, verdict.text.split(" (")[0]), (False, f"illegal line {line}"))
-        self.assertEqual(verdict.why[0], f"line {line}: {text_lines(text)[line - 1]}")
+        is_legal, verdict, why = check_text(text, self.checker(True))
+        self.assertEqual((is_legal, verdict.split(" (")[0]), (False, f"illegal line {line}"))
+        self.assertEqual(why[0], f"line {line}: {text_lines(text)[line - 1]}")
 
     def test_a_checker_that_does_not_explain_is_not_asked_to(self) -> None:
         text, line = altered_copy()
-        verdict = check_text(text, self.checker(False))
-        self.assertEqual((verdict.legal, verdict.why), (False, []))
-        self.assertTrue(verdict.text.startswith(f"illegal line {line}: {text_lines(text)[line - 1]} ("))
+        is_legal, verdict, why = check_text(text, self.checker(False))
+        self.assertEqual((is_legal, why), (False, []))
+        self.assertTrue(verdict.startswith(f"illegal line {line}: {text_lines(text)[line - 1]} ("))
 
     def test_a_legal_journal_has_nothing_to_explain(self) -> None:
-        verdict = check_text(journal_of_one_thread(), self.checker(True))
-        self.assertEqual((verdict.legal, verdict.text.split(" (")[0], verdict.why), (True, "legal", []))
+        is_legal, verdict, why = check_text(journal_of_one_thread(), self.checker(True))
+        self.assertEqual((is_legal, verdict.split(" (")[0], why), (True, "legal", []))
 
     def test_an_empty_journal_is_no_legal_one(self) -> None:
-        self.assertFalse(check_text("thp-journal 1\nnode 0 blocks 8\nend\n", self.checker(True)).legal)
+        self.assertFalse(check_text("thp-journal 1\nnode 0 blocks 8\nend\n", self.checker(True))[0])
 
 
 @unittest.skipUnless(BUILT, "there is no thpcheck (make checker, or THPCHECK=PATH)")

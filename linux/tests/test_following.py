@@ -8,7 +8,6 @@ from typing import List, Optional, Sequence
 from ..record.calls import MREMAP
 from ..record.journal_builder import JournalBuilder
 from ..record.records import Kind, Record
-from ..record.state import Settings
 from .recordings import linked
 from .test_record import BASE, DONTNEED, HUGE, MADVISE, MUNMAP, SPACE, RecordBuilder, folio_of, frames_of, verdict
 
@@ -17,7 +16,7 @@ DAEMON = 90  # khugepaged, or a task that migrates: of no group that is recorded
 
 def build_journal(records: RecordBuilder, threshold: Optional[int] = None) -> JournalBuilder:
     """Builds the journal of records; it is legal, and its queues equal the kernel's."""
-    builder = JournalBuilder(Settings(9, threshold, True))
+    builder = JournalBuilder(9, threshold, True)
     builder.add_records(linked(records.records))
     assert verdict(builder.text()) == "legal", builder.text()
     assert not builder.tallies["queues that differ"], builder.tallies
@@ -62,7 +61,7 @@ class CollapseTest(unittest.TestCase):
         records.drop(0, 8, 8, [folio_of(1)])  # of the new page, at the old one's address
         builder = build_journal(records)
         self.assertEqual(event_words(builder), [*self.wanted, "splitpmd 1", "unmapsub 1 8 8 queued -"])
-        self.assertEqual((builder.tallies["pages made by collapses"], builder.count_omitted()), (1, 0))
+        self.assertEqual((builder.tallies["pages made by collapses"], builder.left_out), (1, 0))
 
     def test_another_task_sees_the_queue_before_its_end(self) -> None:
         records = self.partly()
@@ -175,7 +174,7 @@ class CountsTest(unittest.TestCase):
     def test_counts_that_differ_leave_the_page_out(self) -> None:
         for counts in ((0, 505, 504), (1, 504, 504), (0, 504, 503)):
             builder = self.drop_subpages(*counts)
-            self.assertEqual((builder.tallies["map counts that differ"], builder.count_omitted()), (1, 1), counts)
+            self.assertEqual((builder.tallies["map counts that differ"], builder.left_out), (1, 1), counts)
 
 
 class TornTest(unittest.TestCase):
@@ -235,7 +234,7 @@ class LongScanTest(unittest.TestCase):
         records.drop(2, 0, 8, queue)
         records.daemon(Kind.SCANNED, [0, 0], queue)
         builder = build_journal(records)
-        self.assertEqual(builder.count_omitted(), 0)
+        self.assertEqual(builder.left_out, 0)
         self.assertEqual(event_words(builder)[-3:], ["back 1", "splitpmd 2", "unmapsub 2 0 8 queued -"])
 
     def test_a_copy_from_before_it_took_shows_nothing_of_it(self) -> None:
@@ -250,7 +249,7 @@ class LongScanTest(unittest.TestCase):
         records.daemon(Kind.SCANNED, [0, 0], [pages[1], unknown, pages[0]])
         records.look([pages[1], unknown, pages[0]])
         builder = build_journal(records)
-        self.assertEqual((event_words(builder)[-2:], builder.count_omitted()), (["back 0", "back 1"], 0))
+        self.assertEqual((event_words(builder)[-2:], builder.left_out), (["back 0", "back 1"], 0))
 
     def test_the_frames_of_a_page_put_back_are_another_page_by_its_end(self) -> None:
         records, a, b, c = self.begin_scan(), folio_of(0), folio_of(1), folio_of(2)
@@ -265,7 +264,7 @@ class LongScanTest(unittest.TestCase):
         records.daemon(Kind.SCANNED, [0, 0], [a, c, b])
         records.look([a, c, b])
         builder = build_journal(records)
-        self.assertEqual((builder.tallies["queues compared"] > 3, builder.count_omitted()), (True, 0))
+        self.assertEqual((builder.tallies["queues compared"] > 3, builder.left_out), (True, 0))
 
     def test_the_frames_of_a_page_that_it_holds_are_another_page_while_it_runs(self) -> None:
         """Page 1 is freed and page 5 has its frames; it and page 2, in this order, join before page 0 is split."""
@@ -282,7 +281,7 @@ class LongScanTest(unittest.TestCase):
             records.daemon(Kind.FREE, [frame, 0])
         records.daemon(Kind.SCANNED, [0, 1], [b, c])
         builder = build_journal(records)
-        self.assertEqual((event_words(builder)[-1], builder.count_omitted()), ("split 0 0-7", 0))
+        self.assertEqual((event_words(builder)[-1], builder.left_out), ("split 0 0-7", 0))
 
 
 class QueuedAgainTest(unittest.TestCase):
@@ -343,7 +342,7 @@ class EndTest(unittest.TestCase):
         records.daemon(Kind.EXIT_MMAP, [SPACE], [])
         builder = build_journal(records)
         self.assertEqual(event_words(builder)[2:], ["unmapsub 0 0 256 queued -", "unmapsub 0 256 256 freed 0-511"])
-        self.assertEqual((builder.tallies["pages followed before their process's end"], builder.count_omitted()), (1, 0))
+        self.assertEqual((builder.tallies["pages followed before their process's end"], builder.left_out), (1, 0))
 
     def test_a_page_in_one_page_table_does_not(self) -> None:
         records = TwoTaskBuilder()
@@ -365,7 +364,7 @@ class EndTest(unittest.TestCase):
         records.look([page])
         builder = build_journal(records)
         self.assertEqual(event_words(builder)[1:], ["mapwhole 0", "splitpmd 0", "unmapsub 0 0 256 stays -", "unmapwhole 0 queued -"])
-        self.assertEqual((builder.tallies["pages followed before their process's end"], builder.count_omitted()), (1, 0))
+        self.assertEqual((builder.tallies["pages followed before their process's end"], builder.left_out), (1, 0))
 
     def test_a_page_that_goes_while_its_process_runs_is_left_out(self) -> None:
         records = TwoTaskBuilder()
@@ -374,4 +373,4 @@ class EndTest(unittest.TestCase):
         records.daemon(Kind.SCAN, [0, 1], [])
         records.look([])
         records.daemon(Kind.EXIT_MMAP, [SPACE], [])
-        self.assertEqual(build_journal(records).count_omitted(), 1)
+        self.assertEqual(build_journal(records).left_out, 1)

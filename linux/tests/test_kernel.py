@@ -6,13 +6,14 @@ import shutil
 import subprocess
 import tempfile
 import unittest
+from argparse import ArgumentTypeError
 from pathlib import Path
 from unittest import mock
 
 from ..common import kernel_library, kernel_memory, proc
 from ..common.errors import InputFault
 from ..record.options import parse_size
-from ..record.recorder import Recording, Taker
+from ..record.recorder import Taker, name_gaps
 
 KERNEL = Path(__file__).resolve().parent.parent / "kernel"
 CO_RE = """libbpf: prog 'read_queue': BPF program load failed: Invalid argument
@@ -75,21 +76,21 @@ class DiskTest(unittest.TestCase):
     def test_sizes(self) -> None:
         self.assertEqual([parse_size(text) for text in ("100", "3K", "2M", "1G", "1T")], [100, 3 << 10, 2 << 20, 1 << 30, 1 << 40])
         for text in ("", "0", "1k", "-1", "1.5G", "1GB", "9" * 13):
-            with self.assertRaises(InputFault):
+            with self.assertRaises(ArgumentTypeError):
                 parse_size(text)
 
     def test_nothing_is_taken_past_the_limit(self) -> None:
         track = mock.Mock(store=mock.Mock(size=40, count=3))
-        track.programs.read.side_effect = [True, False]
+        track.take.side_effect = [True, False]
         taker = Taker([track, track], None, 100)
         taker.take()
         taker.take()
-        self.assertEqual([each.args[1] for each in track.programs.read.call_args_list], [20, 20])
+        self.assertEqual([each.args[0] for each in track.take.call_args_list], [20, 20])
         self.assertTrue(taker.is_full)
 
     def test_gaps_are_named(self) -> None:
-        self.assertEqual(Recording([], [], 0, 0, False, [], "", [], None).gaps(), [])
-        self.assertEqual(Recording([], [], 1, 2, True, [], "", [], None).gaps(), [
+        self.assertEqual(name_gaps(0, 0, False), [])
+        self.assertEqual(name_gaps(1, 2, True), [
             "1 records were lost", "the kernel left out 2 runs of the trace programs", "the records reached the limit of --disk"])
 
 

@@ -7,7 +7,6 @@ from typing import List, Sequence
 
 from ..record.journal_builder import JournalBuilder
 from ..record.records import Kind, Record
-from ..record.state import Settings
 from .played_kernel import PlayedKernel
 from .recordings import linked
 from .test_record import BASE, DONTNEED, HUGE, MADVISE, SPACE, TASK, RecordBuilder, folio_of, frames_of, verdict
@@ -18,7 +17,7 @@ THRESHOLD, THREADS, STEPS = 100, 4, 400
 
 def build_journal(records: List[Record], threshold: "int | None" = None) -> JournalBuilder:
     """Builds the journal of records; it is legal, and its queues equal the kernel's."""
-    builder = JournalBuilder(Settings(9, threshold, True))
+    builder = JournalBuilder(9, threshold, True)
     builder.add_records(linked(records))
     assert verdict(builder.text()) == "legal", builder.text()
     assert not builder.tallies["queues that differ"], builder.tallies
@@ -66,7 +65,7 @@ class PutBackTest(unittest.TestCase):
                 records.by(SCANNER, Kind.FREE, [frame, 0])
         records.by(SCANNER, Kind.SCANNED, [4], [])
         builder = build_journal(records.records)
-        self.assertEqual((builder.count_omitted(), builder.tallies["scans"]), (0, 2), builder.tallies)
+        self.assertEqual((builder.left_out, builder.tallies["scans"]), (0, 2), builder.tallies)
         self.assertEqual(sum(words.startswith("split ") for words in event_words(builder)), 4)
 
     def test_the_record_of_a_taken_page_comes_after_that_of_a_page_that_joined_later(self) -> None:
@@ -113,7 +112,7 @@ class PlayedTest(unittest.TestCase):
             with self.subTest(seed=seed):
                 records = PlayedKernel(seed, one_by_one, THRESHOLD, THREADS).play(STEPS)
                 builder = build_journal(records, THRESHOLD)
-                self.assertGreater(10 * builder.pages(), 60 * builder.count_omitted())
+                self.assertGreater(10 * builder.pages, 60 * builder.left_out)
 
     def test_a_kernel_that_puts_back_one_by_one(self) -> None:
         self.play((8, 77, 112, 175, 202, 231), True)

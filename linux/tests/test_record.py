@@ -10,9 +10,8 @@ from typing import List, Optional, Sequence
 
 from ..common.program import Program
 from ..record.journal_builder import JournalBuilder
-from ..record.records import COUNT_AT, FOLIOS_AT, QUEUE_MOST, SIZE, Kind, Record, pack_record, parse_record
+from ..record.records import HEAD, QUEUE_MOST, SIZE, Kind, Record, pack_record, parse_record
 from ..record.scans import batches_of
-from ..record.state import Settings
 from ..record.tampering import Alteration, alter_journal
 from .recordings import linked, read_recording, record_from_json
 
@@ -56,7 +55,7 @@ class RecordBuilder:
         self.add(Kind.SCANNED, [0, len(freed)], after)
 
     def journal(self, straighten: bool = False) -> str:
-        builder = JournalBuilder(Settings(9, None, straighten))
+        builder = JournalBuilder(9, None, straighten)
         builder.add_records(linked(self.records))
         self.tallies = builder.tallies
         return builder.text()
@@ -157,7 +156,7 @@ class WrittenRecordsTest(unittest.TestCase):
         records.page(1)
         records.drop(1, 0, 256, [folio_of(1)])
         records.drop(0, 0, 512, [folio_of(1)])
-        builder = JournalBuilder(Settings(9, None, False))
+        builder = JournalBuilder(9, None, False)
         builder.add_records(linked(records.records))
         times, texts = list(builder.times()), list(builder.texts())
         self.assertEqual(len(times), len(texts))
@@ -202,8 +201,8 @@ class RecordsTest(unittest.TestCase):
     def raw(self, kind: Kind, count: int) -> bytes:
         raw = bytearray(SIZE)
         struct.pack_into("<4Q", raw, 0, int(kind), 5, 9 << 32 | 7, SPACE)
-        struct.pack_into("<Q", raw, COUNT_AT, count)
-        struct.pack_into("<3Q", raw, FOLIOS_AT, 100, 200, 300)
+        struct.pack_into("<Q", raw, 8 * 14, count)
+        struct.pack_into("<3Q", raw, HEAD.size, 100, 200, 300)
         return bytes(raw)
 
     def test_a_torn_copy_is_no_queue(self) -> None:
@@ -225,7 +224,7 @@ class StoredTest(unittest.TestCase):
         return self.build_journal(name, straighten).text()
 
     def build_journal(self, name: str, straighten: bool) -> JournalBuilder:
-        builder = JournalBuilder(Settings(9, None, straighten))
+        builder = JournalBuilder(9, None, straighten)
         builder.add_records(linked(read_recording(name)))
         self.assertEqual(builder.tallies["queues that differ"], 0)
         return builder
@@ -234,14 +233,14 @@ class StoredTest(unittest.TestCase):
         builder = self.build_journal("collapses", True)
         seen = [builder.tallies[f"map counts {what}"] for what in ("compared", "that differ")]
         self.assertEqual((builder.tallies["pages made by collapses"], *seen), (12, 76, 0))
-        self.assertEqual((builder.pages(), builder.count_omitted()), (61, 1))
+        self.assertEqual((builder.pages, builder.left_out), (61, 1))
         self.assertEqual(verdict(builder.text()), "legal")
 
     def test_two_threads_that_move_and_replace_areas(self) -> None:
         builder = self.build_journal("areas", True)
         seen = [builder.tallies[f"map counts {what}"] for what in ("compared", "that differ")]
         self.assertEqual((builder.tallies["pages whose mapping moved"], *seen), (11, 64, 0))
-        self.assertEqual((builder.pages(), builder.count_omitted()), (53, 0))
+        self.assertEqual((builder.pages, builder.left_out), (53, 0))
         self.assertEqual(verdict(builder.text()), "legal")
 
     def test_a_recording_is_legal_once_straightened(self) -> None:
@@ -275,7 +274,7 @@ class ScanTest(unittest.TestCase):
         records.page(1)
         records.add(Kind.EXIT, [MADVISE, 0, 0, 0, 0], [first, second])
         records.records.append(Record(Kind.SCANNED, 101, TASK + 1, SPACE, (0,) * 9, [first, second]))
-        builder = JournalBuilder(Settings(9, 100, True))
+        builder = JournalBuilder(9, 100, True)
         builder.add_records(linked(records.records))
         self.assertEqual(builder.tallies["queues that differ"], 0)
         self.assertEqual(builder.tallies["pages that joined while a scan ran, moved after it"], 1)
@@ -285,7 +284,7 @@ class ScanTest(unittest.TestCase):
 
     def build_journal(self, records: RecordBuilder, threshold: Optional[int], seen: str) -> List[str]:
         """Returns the words of the journal, which is legal; `seen` was counted once."""
-        builder = JournalBuilder(Settings(9, threshold, True))
+        builder = JournalBuilder(9, threshold, True)
         builder.add_records(linked(records.records))
         self.assertEqual(verdict(builder.text()), "legal")
         self.assertEqual((builder.tallies[seen], builder.tallies["queues that differ"]), (1, 0))

@@ -2,7 +2,6 @@
 
 from __future__ import annotations
 
-import io
 import random
 import subprocess
 import sys
@@ -13,11 +12,10 @@ from unittest import mock
 
 from ..record import lines
 from ..record.journal_builder import JournalBuilder
-from ..record.journal_file import JournalFile
-from ..record.pages import MapCounts
-from ..record.records import BY_FAULT, IN_FAULT, IN_NONE, Kind
-from ..record.state import TOO_OLD, Settings
-from .recordings import linked, read_recording, stored
+from ..record.outputs import JournalFile
+from ..record.records import IN_FAULT, Kind
+from ..record.state import TOO_OLD, MapCounts
+from .recordings import BY_FAULT, IN_NONE, linked, read_recording, stored
 from .sample_records import RECORDS_OF_A_PAGE
 from .test_following import TwoTaskBuilder, build_journal, event_words
 from .test_record import BASE, HUGE, SPACE, RecordBuilder, folio_of, frames_of, verdict
@@ -31,23 +29,22 @@ import resource, sys
 sys.path.insert(0, sys.argv[1])
 from linux.common.journal import journal_lines
 from linux.record.journal_builder import JournalBuilder
-from linux.record.state import Settings
 from linux.record.store import Store
 from linux.tests.sample_records import make_pages
 def resident():
     return resource.getrusage(resource.RUSAGE_SELF).ru_maxrss
-store, builder, before = Store(), JournalBuilder(Settings(9, None, True)), resident()
+store, builder, before = Store(), JournalBuilder(9, None, True), resident()
 make_pages(store, int(sys.argv[2]))
 store.link()
 builder.add_records(store.records())
 count = sum(1 for line in journal_lines([builder]))
-print(store.count, count, builder.count_omitted(), resident() - before)
+print(store.count, count, builder.left_out, resident() - before)
 """
 
 
 def outcome(builder: JournalBuilder) -> Tuple[str, List[Tuple[str, int]], int, int]:
     """All that a builder has found."""
-    return builder.text(), sorted(builder.tallies.items()), builder.pages(), builder.count_omitted()
+    return builder.text(), sorted(builder.tallies.items()), builder.pages, builder.left_out
 
 
 class StoreTest(unittest.TestCase):
@@ -55,8 +52,8 @@ class StoreTest(unittest.TestCase):
         for name in STORED:
             store = stored(read_recording(name))
             for straighten, threshold in ((True, None), (False, None), (True, 100)):
-                settings = Settings(9, threshold, straighten)
-                first, second = JournalBuilder(settings), JournalBuilder(settings)
+                settings = (9, threshold, straighten)
+                first, second = JournalBuilder(*settings), JournalBuilder(*settings)
                 first.add_records(linked(read_recording(name)))
                 second.add_records(store.records())
                 self.assertEqual(outcome(first), outcome(second), (name, settings))
@@ -72,7 +69,7 @@ class StoreTest(unittest.TestCase):
             records.daemon(Kind.EXIT_MMAP, [SPACE], [])
         store = stored(records.records)
         first = build_journal(records)
-        second = JournalBuilder(Settings(9, None, True))
+        second = JournalBuilder(9, None, True)
         second.add_records(store.records())
         self.assertEqual(outcome(first), outcome(second))
         self.assertEqual(event_words(first), ["alloc 0", "unmapwhole 0 freed 0-511", "alloc 1", "unmapwhole 1 freed 0-511"])
@@ -82,17 +79,17 @@ class StoreTest(unittest.TestCase):
 class LinesTest(unittest.TestCase):
     def build_in_window(self, name: str, window: int) -> JournalBuilder:
         with mock.patch.object(lines, "WINDOW", window), mock.patch.object(lines, "SLACK", 10):
-            builder = JournalBuilder(Settings(9, None, True))
+            builder = JournalBuilder(9, None, True)
             builder.add_records(linked(read_recording(name)))
         return builder
 
     def test_a_small_window_gives_the_same_journal(self) -> None:
-        whole = JournalBuilder(Settings(9, None, True))
+        whole = JournalBuilder(9, None, True)
         whole.add_records(linked(read_recording("one_thread")))
         small = self.build_in_window("one_thread", 40)
         self.assertEqual(outcome(small), outcome(whole))
-        self.assertGreater(small._state.lines.final, 100)
-        small.close()
+        self.assertGreater(small.lines.final, 100)
+        small.lines.close()
 
     def test_a_page_that_joined_too_long_ago_is_left_out(self) -> None:
         """Pages 0 and 1 are in another order in the kernel's queue than in the journal; their lines are final."""
@@ -107,21 +104,20 @@ class LinesTest(unittest.TestCase):
             records.page(number)
         records.add(Kind.EXIT, [28, 0, 0, 0, 0], queue)
         with mock.patch.object(lines, "WINDOW", 10), mock.patch.object(lines, "SLACK", 5):
-            builder = JournalBuilder(Settings(9, None, True))
+            builder = JournalBuilder(9, None, True)
             builder.add_records(linked(records.records))
         self.assertGreater(builder.tallies[f"pages left out: {TOO_OLD}"], 0)
         self.assertEqual((verdict(builder.text()), builder.tallies["queues that differ"]), ("legal", 0))
-        builder.close()
+        builder.lines.close()
 
     def test_a_journal_as_a_file(self) -> None:
         builder = self.build_in_window("one_thread", 40)
-        journal, copy = JournalFile([builder]), io.BytesIO()
-        journal.copy_to(copy)
-        self.assertEqual(copy.getvalue().decode(), builder.text())
+        journal = JournalFile([builder])
+        self.assertEqual(b"".join(journal.pieces()).decode(), builder.text())
         self.assertEqual([journal.line(3), journal.line(10 ** 9)], [builder.text().split("\n")[2], ""])
         self.assertEqual(journal.size, len(builder.text()))
         journal.close()
-        builder.close()
+        builder.lines.close()
 
 
 class MemoryTest(unittest.TestCase):
@@ -167,7 +163,7 @@ class CopyTest(unittest.TestCase):
         records.add(Kind.FREE, [frames_of(0, 9, 1)[0], 0])
         records.add(Kind.FAULT, [HUGE * 10, 7])
         builder = build_journal(records)
-        self.assertEqual((event_words(builder)[-1], builder.count_omitted()), ("unmapsub 0 9 1 stays 9", 0))
+        self.assertEqual((event_words(builder)[-1], builder.left_out), ("unmapsub 0 9 1 stays 9", 0))
 
     def test_a_look_by_another_shows_a_copy_before_its_tasks_next_record(self) -> None:
         records = TwoTaskBuilder()
@@ -177,7 +173,7 @@ class CopyTest(unittest.TestCase):
         records.daemon(Kind.SCANNED, [0, 0], [page])
         builder = build_journal(records)
         self.assertEqual(event_words(builder)[1:], ["splitpmd 0", "unmapsub 0 3 1 queued -"])
-        self.assertEqual(builder.count_omitted(), 0)
+        self.assertEqual(builder.left_out, 0)
 
     def test_one_in_no_fault_or_of_an_absent_page_is_none(self) -> None:
         for how, code in ((IN_NONE, 7), (IN_FAULT, 6), (BY_FAULT, 0)):

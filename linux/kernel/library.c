@@ -1,0 +1,350 @@
+// SPDX-License-Identifier: MIT OR GPL-2.0
+/*
+ * Loads the readers of kernel memory (memory.bpf.c), for linux/common/kernel_memory.py, and the programs of a recording
+ * (record.bpf.c), whose records it moves to a file, for linux/record/recorder.py. What opens programs leaves a reason or lines of
+ * what isn't followed in `problem`.
+ */
+#define _GNU_SOURCE
+#include <errno.h>
+#include <stdarg.h>
+#include <stdbool.h>
+#include <stdint.h>
+#include <stdio.h>
+#include <stdlib.h>
+#include <string.h>
+#include <unistd.h>
+#include <bpf/bpf.h>
+#include <bpf/btf.h>
+#include <bpf/libbpf.h>
+#include "shared.h"
+#include "memory.skel.h"
+#include "record.skel.h"
+
+enum { PIECE = 1 << 18, HEAD = 8, NAMES = 80 };
+
+/* messages */
+
+static __thread char *kept;	/* while programs are opened: warnings of libbpf and ours, of all of them the last */
+static __thread size_t kept_room;
+
+/* Appends a text; where there is no room for it, it replaces what is there, and of itself the end is kept. */
+static void keep(const char *format, va_list words)
+{
+	size_t used, length, skipped;
+	char *text;
+
+	if (!kept || vasprintf(&text, format, words) < 0)
+		return;
+	used = strlen(kept);
+	length = strlen(text);
+	skipped = length >= kept_room ? length - kept_room + 1 : 0;
+	if (used + length >= kept_room)
+		used = 0;
+	memcpy(kept + used, text + skipped, length - skipped + 1);
+	free(text);
+}
+
+static int print(enum libbpf_print_level level, const char *format, va_list words)
+{
+	if (level == LIBBPF_WARN)
+		keep(format, words);
+	return 0;
+}
+
+static void begin_messages(char *text, size_t size)
+{
+	kept = text;
+	kept_room = size;
+	*text = 0;
+	libbpf_set_print(print);
+}
+
+__attribute__((format(printf, 1, 2))) static void add_message(const char *format, ...)
+{
+	va_list words;
+
+	va_start(words, format);
+	keep(format, words);
+	va_end(words);
+}
+
+/* the running kernel's types */
+
+/* Returns the type of a member of a struct, also of one in it that has no name; 0: there is none. */
+static uint32_t find_member(const struct btf *types, uint32_t id, const char *name)
+{
+	const struct btf_type *type = btf__type_by_id(types, id);
+	uint32_t found = 0;
+
+	for (int i = 0; type && btf_is_composite(type) && i < btf_vlen(type) && !found; i++) {
+		const struct btf_member *member = btf_members(type) + i;
+
+		if (!member->name_off)
+			found = find_member(types, member->type, name);
+		else if (!strcmp(btf__name_by_offset(types, member->name_off), name))
+			found = member->type;
+	}
+	return found;
+}
+
+/* Whether each number and pointer of a struct is as large as the kernel's; structures are found by their fields, arrays by elements. */
+static bool has_sizes(const struct btf *own, const struct btf_type *type, const char *name, const struct btf *kernel, int32_t id)
+{
+	for (int i = 0; i < btf_vlen(type); i++) {
+		const struct btf_member *member = btf_members(type) + i;
+		const char *field = btf__name_by_offset(own, member->name_off);
+		const struct btf_type *kind = btf__type_by_id(own, btf__resolve_type(own, member->type));
+		uint32_t other = find_member(kernel, id, field);
+		long long size = btf__resolve_size(own, member->type), found = btf__resolve_size(kernel, other);
+
+		if (!other || found == size || !(btf_is_int(kind) || btf_is_ptr(kind) || btf_is_any_enum(kind)))
+			continue;
+		add_message("struct %s.%s has %lld bytes in this kernel, not %lld\n", name, field, found, size);
+		return false;
+	}
+	return true;
+}
+
+/* The same for all types of the programs. Those whose names begin with thp_ are our own; those without a name are of maps. */
+static bool has_kernel_sizes(const struct btf *own, const struct btf *kernel)
+{
+	bool are_same = true;
+
+	for (uint32_t i = 1; i < btf__type_cnt(own); i++) {
+		const struct btf_type *type = btf__type_by_id(own, i);
+		char name[NAMES];
+		int32_t id;
+
+		snprintf(name, sizeof(name), "%s", btf__name_by_offset(own, type->name_off));
+		if (!btf_is_struct(type) || !*name || !strncmp(name, "thp_", 4))
+			continue;
+		if (strstr(name, "___"))
+			*strstr(name, "___") = 0;
+		id = btf__find_by_name_kind(kernel, name, BTF_KIND_STRUCT);
+		are_same = (id < 0 || has_sizes(own, type, name, kernel, id)) && are_same;
+	}
+	return are_same;
+}
+
+/* Returns the value of an enumerator, also of an enumeration without a name; -1: there is none, and a message says so. */
+static int64_t find_enumerator(const struct btf *types, const char *name)
+{
+	for (uint32_t id = 1; id < btf__type_cnt(types); id++) {
+		const struct btf_type *type = btf__type_by_id(types, id);
+
+		for (int i = 0; btf_is_enum(type) && i < btf_vlen(type); i++)
+			if (!strcmp(btf__name_by_offset(types, btf_enum(type)[i].name_off), name))
+				return btf_enum(type)[i].val;
+	}
+	add_message("this kernel has no enumerator %s\n", name);
+	return -1;
+}
+
+/* Returns how many arguments a tracepoint has; -1: there is none. include/trace/bpf_probe.h: typedef btf_trace_NAME, a pointer to a
+ * function whose first argument isn't the tracepoint's */
+static int count_arguments(const struct btf *types, const char *tracepoint)
+{
+	const struct btf_type *type;
+	char name[NAMES];
+	int id;
+
+	snprintf(name, sizeof(name), "btf_trace_%s", tracepoint);
+	id = btf__find_by_name_kind(types, name, BTF_KIND_TYPEDEF);
+	if (id < 0)
+		return -1;
+	type = btf__type_by_id(types, btf__type_by_id(types, id)->type);
+	return btf_vlen(btf__type_by_id(types, type->type)) - 1;
+}
+
+/* readers of kernel memory */
+
+/* Returns the programs, loaded; NULL where they are refused. */
+struct memory_bpf *thp_memory_open(char *problem, size_t size)
+{
+	struct memory_bpf *programs;
+	struct btf *kernel;
+	bool fits;
+
+	begin_messages(problem, size);
+	kernel = btf__load_vmlinux_btf();
+	programs = kernel ? memory_bpf__open() : NULL;
+	fits = programs && has_kernel_sizes(bpf_object__btf(programs->obj), kernel);
+	btf__free(kernel);	/* several MiB, and loading has a copy of its own */
+	if (!fits || memory_bpf__load(programs)) {
+		memory_bpf__destroy(programs);
+		programs = NULL;
+	}
+	kept = NULL;
+	return programs;
+}
+
+/* Returns the descriptor of a program, which pages.c runs. */
+int thp_memory_program(struct memory_bpf *programs, const char *name)
+{
+	return bpf_program__fd(bpf_object__find_program_by_name(programs->obj, name));
+}
+
+/* Runs a program by its name. Returns its answer (enum answer), or -errno. */
+int thp_memory_run(struct memory_bpf *programs, const char *name, struct thp_request *request)
+{
+	LIBBPF_OPTS(bpf_test_run_opts, options, .ctx_in = request, .ctx_size_in = sizeof(*request));
+	int failed = bpf_prog_test_run_opts(thp_memory_program(programs, name), &options);
+
+	return failed ? failed : (int)options.retval;
+}
+
+/* Returns the memory that the programs share with the caller. */
+struct thp_window *thp_memory_window(struct memory_bpf *programs)
+{
+	return &programs->bss->window;
+}
+
+/* recordings */
+
+struct recorder {
+	struct record_bpf *programs;
+	struct ring_buffer *ring;
+	int file;
+	long count;	/* records that were taken .. */
+	size_t room;	/* .. and bytes that the file may still grow by */
+	size_t filled;
+	char piece[PIECE];
+};
+
+void thp_record_close(struct recorder *recorder)
+{
+	ring_buffer__free(recorder->ring);
+	record_bpf__destroy(recorder->programs);
+	free(recorder);
+}
+
+/* Writes what was taken from the ring. Returns 0 or -errno. */
+static int flush(struct recorder *recorder)
+{
+	size_t done = 0;
+
+	while (done < recorder->filled) {
+		ssize_t wrote = write(recorder->file, recorder->piece + done, recorder->filled - done);
+
+		if (wrote < 0 && errno != EINTR)
+			return -errno;
+		if (wrote > 0)
+			done += wrote;
+	}
+	recorder->filled = 0;
+	return 0;
+}
+
+/* Keeps a record after a head of 8 bytes, its length, which is a multiple of 8. A negative result leaves it in the ring. */
+static int take_one(void *context, void *data, size_t size)
+{
+	struct recorder *recorder = context;
+	uint64_t length = size;
+	int failed = 0;
+
+	if (HEAD + size > recorder->room)
+		return -EXFULL;
+	if (recorder->filled + HEAD + size > PIECE)
+		failed = flush(recorder);
+	if (failed)
+		return failed;
+	memcpy(recorder->piece + recorder->filled, &length, HEAD);
+	memcpy(recorder->piece + recorder->filled + HEAD, data, size);
+	recorder->filled += HEAD + size;
+	recorder->room -= HEAD + size;
+	recorder->count++;
+	return 0;
+}
+
+/* Leaves out the program of a tracepoint that this kernel lacks, or has with another number of arguments, and reports it. */
+static void leave_out(const struct btf *kernel, struct bpf_program *program, int least, int most, const char *what)
+{
+	const char *name = strchr(bpf_program__section_name(program), '/') + 1;
+	int found = count_arguments(kernel, name);
+
+	if (found >= least && found <= most)
+		return;
+	bpf_program__set_autoload(program, false);
+	add_message("%s aren't followed: this kernel's tracepoint %s %s\n", what, name,
+		    found < 0 ? "isn't there" : "has other arguments");
+}
+
+/* Sets what the programs are loaded with. */
+static bool configure(struct record_bpf *programs, const struct thp_settings *settings, const struct btf *kernel)
+{
+	int64_t nomemalloc = find_enumerator(kernel, "___GFP_NOMEMALLOC_BIT");
+	int64_t movable = find_enumerator(kernel, "___GFP_MOVABLE_BIT");
+
+	if (nomemalloc < 0 || movable < 0)
+		return false;
+	memcpy((void *)&programs->rodata->settings, settings, sizeof(*settings));
+	programs->rodata->nomemalloc = 1u << nomemalloc;
+	programs->rodata->movable = 1u << movable;
+	programs->rodata->has_collapse_order = count_arguments(kernel, "mm_collapse_huge_page") > 3;
+	leave_out(kernel, programs->progs.on_collapse, 3, 4, "collapses");
+	leave_out(kernel, programs->progs.on_moved_pmd, 2, 2, "migrations");
+	leave_out(kernel, programs->progs.on_moved_pte, 3, 3, "migrations");
+	return !bpf_map__set_max_entries(programs->maps.ring, settings->room) &&
+	       has_kernel_sizes(bpf_object__btf(programs->obj), kernel);
+}
+
+/* Begins a recording; NULL where it can't begin. */
+struct recorder *thp_record_open(const struct thp_settings *settings, char *problem, size_t size)
+{
+	struct recorder *recorder = calloc(1, sizeof(*recorder));
+	struct record_bpf *programs;
+	struct btf *kernel;
+	bool fits;
+
+	if (!recorder)
+		return NULL;
+	begin_messages(problem, size);
+	kernel = btf__load_vmlinux_btf();
+	programs = recorder->programs = kernel ? record_bpf__open() : NULL;
+	fits = programs && configure(programs, settings, kernel);
+	btf__free(kernel);	/* several MiB, and loading has a copy of its own */
+	if (fits && !record_bpf__load(programs) && !record_bpf__attach(programs))
+		recorder->ring = ring_buffer__new(bpf_map__fd(programs->maps.ring), take_one, recorder, NULL);
+	kept = NULL;
+	if (recorder->ring)
+		return recorder;
+	thp_record_close(recorder);
+	return NULL;
+}
+
+/* Writes the records that have come to a file, which may grow by `room` bytes. Returns 0 or -errno; -EXFULL: there was no room for
+ * all. *count are written. */
+int thp_record_take(struct recorder *recorder, int file, size_t room, long *count)
+{
+	int taken, failed = 0;
+
+	recorder->file = file;
+	recorder->room = room;
+	recorder->count = 0;
+	taken = ring_buffer__consume(recorder->ring);
+	if (taken >= 0 || taken == -EXFULL)
+		failed = flush(recorder);
+	*count = recorder->count;
+	return failed ? failed : taken < 0 ? taken : 0;
+}
+
+/* Of programs in pairs a run is missed if both were left out. */
+void thp_record_counters(const struct recorder *recorder, struct thp_counters *counters)
+{
+	const struct record_bpf *programs = recorder->programs;
+	uint64_t missed = 0, caught = programs->bss->caught;
+	struct bpf_program *program;
+
+	*counters = programs->bss->counters;
+	bpf_object__for_each_program(program, programs->obj) {
+		struct bpf_prog_info info = {};
+		uint32_t size = sizeof(info);
+		int descriptor = bpf_program__fd(program);
+
+		if (strstr(bpf_program__name(program), "_again") || descriptor < 0)
+			continue;
+		if (!bpf_obj_get_info_by_fd(descriptor, &info, &size))
+			missed += info.recursion_misses;
+	}
+	counters->missed = caught < missed ? missed - caught : 0;
+}
