@@ -11,7 +11,6 @@ from pathlib import Path
 from unittest import mock
 
 from ..common import kernel_library, kernel_memory, proc
-from ..common.errors import InputFault
 from ..record.options import parse_size
 from ..record.recorder import Taker, name_gaps
 
