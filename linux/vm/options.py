@@ -19,7 +19,7 @@ from typing import Sequence
 from ..common.arguments import OneLineParser, seconds, tool_parser, whole
 from ..common.errors import InputFault
 from ..common.text import escape
-from .packages import SUITE
+from .kernels import SUITE
 
 NAME = "thpvm"
 BOOT, SILENCE, MOST_SECONDS = 300.0, 120.0, 1e6
