@@ -81,12 +81,11 @@ class Bench:
     def prepare(self, options: Options) -> None:
         """Makes the settings and nodes of a script. Unsupported where a kernel can't have such settings."""
         large = {switch for order, switch in zip(options.orders, options.underused) if order == PMD_ORDER}
-        if None in large and len(large) > 1:
-            raise Unsupported("underused pages are split on some nodes only: the kernel has one switch")
         if len(large) > 1:
-            raise Unsupported("thresholds differ by node: the kernel has one")
-        small = [switch for switch in options.underused if switch is not None]  # these pages aren't looked at (C)
-        threshold = large.pop() if large else next(iter(small), None)
+            raise Unsupported("underused pages are split on some nodes only: the kernel has one switch" if None in large
+                              else "thresholds differ by node: the kernel has one")
+        small = (switch for switch in options.underused if switch is not None)  # these pages aren't looked at (C)
+        threshold = large.pop() if large else next(small, None)
         if os.path.exists(SWITCH):
             self._keeper.set(SWITCH, int(threshold is not None))
         elif threshold is not None:
