@@ -10,7 +10,6 @@
     guardian        the small process that does so; started by Keeper, needs nothing of this package
     user            the users as whom other programs are run
     groups          Groups: memory control groups of version 1 or 2, and a reclaim in one
-    shrinker_debug  ShrinkerFile: scans of exactly so many pages of a queue, by debugfs
     page_files      pagemap of a process, kpageflags, kpagecount, kpagecgroup; the flags by name
     proc            files of processes and of control groups, read as bytes
     folios          Folio: a huge page as it was read

@@ -19,7 +19,7 @@ from .bench import open_session
 from .letters import Match, find_all, look_on, markdown
 from .options import NAME, list_scripts, parse_words
 from .reports import FAIL, SKIP, JsonReport, KtapReport, Report, RunHead, SumLine, kselftest_status
-from .runner import Outcome, Result, RunComparer, Runner, ignore_line
+from .runner import Outcome, Result, RunComparer, Runner
 from .shrinking import Shrinker, SmallScript
 from .states import Observation
 
@@ -85,7 +85,7 @@ def run_all(options: argparse.Namespace, report: Report) -> int:
     count, scripts = list_scripts(options)
     zeros = None if options.fill is None else options.fill == "zeros"
     looks: list[Observation] = []
-    comparer = RunComparer(report=report.print_command if options.verbose else ignore_line, looks=looks if options.store else None)
+    comparer = RunComparer(report=report.print_command if options.verbose else None, looks=looks if options.store else None)
     with open_session(NAME, options, options.exact_scans) as session:
         sums = Sums(options)
         report.begin(RunHead(session.parts, session.program.path, session.bench.memory is not None, count))

@@ -8,22 +8,44 @@ import resource
 from collections.abc import Iterator
 from contextlib import closing, contextmanager
 from dataclasses import dataclass
+from pathlib import Path
 
 from ..common import machine
-from ..common.errors import Unavailable
-from ..common.files import COLLAPSE_SLEEP, PMD_ORDER, PTES_NONE, SWITCH, size_folder
+from ..common.errors import RunFailed, Unavailable
+from ..common.files import COLLAPSE_SLEEP, PMD_ORDER, PTES_NONE, SWITCH, size_folder, write
 from ..common.groups import Groups, find_hierarchy
 from ..common.keeper import Keeper
 from ..common.kernel_memory import KernelMemory
 from ..common.page_files import Frames
 from ..common.program import Program
 from ..common.script import Options
-from ..common.shrinker_debug import ShrinkerFile
 from .expected_answers import Unsupported
 from .mappers import Mapper, Mappers
 
 NEEDED = ["root", "huge pages", "memory control groups", "frames", "counters"]
+SHRINKERS, SHRINKER = "/sys/kernel/debug/shrinker", "thp-deferred_split-"
 QUIET = 3600000  # milliseconds between khugepaged's rounds: it collapses nothing meanwhile
+
+
+class ShrinkerFile:
+    """The shrinker of deferred split queues by its file `scan` in debugfs (SHRINKER_DEBUG): it scans so many pages as it is asked
+    for, in one pass without a reclaim. Unavailable where the kernel has none, or control groups are of version 1, which it
+    doesn't find (Documentation/admin-guide/mm/shrinker_debugfs.rst and mm/shrinker_debug.c of the kernel)."""
+
+    def __init__(self, version: int, folder: str = SHRINKERS) -> None:
+        if version != 2:
+            raise Unavailable("exact scans need control groups of version 2")
+        found = sorted(Path(folder).glob(f"{SHRINKER}*"))
+        if not found:
+            raise Unavailable(f"no {folder}/{SHRINKER}*: the kernel lacks SHRINKER_DEBUG, or debugfs isn't mounted")
+        self._path = found[0] / "scan"
+
+    def scan(self, group: str, numa_node: int, count: int) -> None:
+        """Scans so many pages of the queue of a control group, by its folder, and of a NUMA node."""
+        try:
+            write(self._path, f"{os.stat(group).st_ino} {numa_node} {count}")
+        except OSError as error:
+            raise RunFailed(f"{self._path} doesn't scan: {error.strerror}") from error
 
 
 @dataclass(frozen=True)
@@ -59,12 +81,11 @@ class Bench:
     def prepare(self, options: Options) -> None:
         """Makes the settings and nodes of a script. Unsupported where a kernel can't have such settings."""
         large = {switch for order, switch in zip(options.orders, options.underused) if order == PMD_ORDER}
-        if None in large and len(large) > 1:
-            raise Unsupported("underused pages are split on some nodes only: the kernel has one switch")
         if len(large) > 1:
-            raise Unsupported("thresholds differ by node: the kernel has one")
-        small = [switch for switch in options.underused if switch is not None]  # these pages aren't looked at (C)
-        threshold = large.pop() if large else next(iter(small), None)
+            raise Unsupported("underused pages are split on some nodes only: the kernel has one switch" if None in large
+                              else "thresholds differ by node: the kernel has one")
+        small = (switch for switch in options.underused if switch is not None)  # these pages aren't looked at (C)
+        threshold = large.pop() if large else next(small, None)
         if os.path.exists(SWITCH):
             self._keeper.set(SWITCH, int(threshold is not None))
         elif threshold is not None:

@@ -7,7 +7,6 @@ which ends the bisection: words or files that can't be used.
 
 from __future__ import annotations
 
-import argparse
 from collections.abc import Sequence
 from typing import NoReturn
 
@@ -26,16 +25,6 @@ NAME = "thpbisect"
 GOOD, BAD, UNDECIDED, ENDED = 0, 1, 125, 128  # git-bisect(1)
 
 
-def parse_words(given: Sequence[str] | None = None) -> argparse.Namespace:
-    """Returns the options of a command line, by default this process's own."""
-    parser = tool_parser(NAME, __doc__)
-    subject = parser.add_mutually_exclusive_group(required=True)
-    subject.add_argument("--letter", metavar="X", help="a known difference that has a script in linux/letters")
-    subject.add_argument("--script", metavar="FILE", help="a script, for example a smallest one of thpreplay --keep")
-    add_common(parser)
-    return parser.parse_args(given)
-
-
 def judge_finding(finding: Finding) -> int:
     """Returns the status for a letter."""
     return {Match.MODEL: GOOD, Match.LETTER: BAD}.get(finding.match, UNDECIDED)
@@ -49,8 +38,13 @@ def judge_outcome(outcome: Outcome) -> int:
 def bisect(given: Sequence[str] | None = None) -> int:
     """Carries out a command line: runs a letter's script or another one on this kernel, prints what it shows, and returns the
     status."""
+    parser = tool_parser(NAME, __doc__)
+    subject = parser.add_mutually_exclusive_group(required=True)
+    subject.add_argument("--letter", metavar="X", help="a known difference that has a script in linux/letters")
+    subject.add_argument("--script", metavar="FILE", help="a script, for example a smallest one of thpreplay --keep")
+    add_common(parser)
     try:
-        options = parse_words(given)
+        options = parser.parse_args(given)
         letter = read_letter(options.letter) if options.letter is not None else None
         script = letter.script if letter else read_script(options.script)
     except InputFault as fault:

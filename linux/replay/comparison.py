@@ -108,70 +108,42 @@ class Comparison:
         if state.threshold == NEVER and once:
             self.known.add(KnownDifference.D)
             once = 0
-        if len(lists_of(queue, self._numa_nodes[expected.node])) > 1:
-            self._queues[expected.node] = self._scan_lists(expected.node, state.order, once, queue, observed)
-            return
-        shown = observed.queues[expected.node]
-        turned = self._is_turned(queue, None if shown is None else shown[len(rest):])
-        passes = self._passes(state.order, once, queue, turned, observed)
-        self._failed[state.order] += once + passes * len(queue)
-        if queue:
-            self.sums[f"scans of {passes} passes with pinned pages"] += 1
-        if passes > 1 and queue:
+        numa_nodes, observed_queue = self._numa_nodes[expected.node], observed.queues[expected.node] or []
+        lists = lists_of(queue, numa_nodes)
+        shown = lists_of([page for page in observed_queue if page not in rest], numa_nodes)
+        turned = {number: is_turned(pages, shown.get(number)) for number, pages in lists.items()}
+        failed = self._failed_tries(state.order, once, lists, turned, observed.counts)
+        self._failed[state.order] += once + failed
+        if len(lists) > 1:
+            self.sums["scans of several NUMA nodes with pinned pages"] += 1
+        elif queue:
+            self.sums[f"scans of {failed // len(queue)} passes with pinned pages"] += 1
+        if failed > len(queue):
             self.known.add(KnownDifference.F)
-        self._queues[expected.node] = rest + (queue[::-1] if passes % 2 else queue)
+        after = {number: pages if turned[number] is False else pages[::-1] for number, pages in lists.items()}
+        self._queues[expected.node] = rest + join_lists(after)
 
-    def _scan_lists(self, node: int, order: int, once: int, queue: list[int], observed: Observation) -> list[int]:
-        """Returns the queue after a scan whose pages that stayed are on lists of several NUMA nodes, each with passes of its
-        own, as many as fit the failed splits and the order."""
-        lists, shown = (lists_of(pages, self._numa_nodes[node]) for pages in (queue, observed.queues[node] or []))
-        turned = {numa_node: self._is_turned(pages, shown.get(numa_node)) for numa_node, pages in lists.items()}
-        total = self._failed_total(order, observed)
-        if total is not None and not self.counters:
-            failed = total - self._failed[order]
-            if can_fail(failed - once, [(len(pages), turned[numa_node]) for numa_node, pages in lists.items()]):
-                self._failed[order] = total
-            else:
-                each = ", ".join(f"{len(pages)} for each pass of NUMA node {number}" for number, pages in lists.items())
-                self._counter_differs("split_failed of a scan", failed, f"{once} + {each}")
-            if failed > once + len(queue):
-                self.known.add(KnownDifference.F)
-        self.sums["scans of several NUMA nodes with pinned pages"] += 1
-        return join_lists({number: pages if turned[number] is False else pages[::-1] for number, pages in lists.items()})
-
-    @staticmethod
-    def _failed_total(order: int, observed: Observation) -> int | None:
-        """Returns the kernel's count of failed splits of an order."""
-        total = observed.counts.sizes[SizeCounter.SPLIT_FAILED, order]
-        return observed.counts.machine[Counter.SPLIT_FAILED] if total is None and order == PMD_ORDER else total
-
-    @staticmethod
-    def _is_turned(queue: list[int], observed: list[int] | None) -> bool | None:
-        """Returns whether the kernel's queue has the pages that stayed in reverse order, which an odd number of passes
-        leaves; None where the queue can't show it."""
-        if observed is None or queue == queue[::-1] or observed not in (queue, queue[::-1]):
-            return None
-        return observed != queue
-
-    def _passes(self, order: int, once: int, queue: list[int], turned: bool | None, observed: Observation) -> int:
-        """Returns how many passes a scan made: by the failed splits where they are counted and no counter differed
-        before, else by the queue: an odd or even number."""
-        by_queue = 1 if turned is None or turned else 2
-        total = self._failed_total(order, observed)
+    def _failed_tries(self, order: int, once: int, lists: Lists, turned: dict[int, bool | None], counts: Counts) -> int:
+        """Returns how many tries of pages that stayed have failed in a scan, each list of a NUMA node with passes of its own: by
+        the kernel's count, unless it isn't known or a counter differed before; else as few as fit the order."""
+        total = counts.sizes[SizeCounter.SPLIT_FAILED, order]
+        if total is None and order == PMD_ORDER:
+            total = counts.machine[Counter.SPLIT_FAILED]
+        fewest = sum(len(pages) * (2 if turned[number] is False else 1) for number, pages in lists.items())
         if total is None or self.counters:
-            return by_queue
-        failed = total - self._failed[order]
-        passes = (failed - once) // len(queue) if queue else 1
-        if self._scans_exactly and failed != once + len(queue):
-            self._counter_differs("split_failed of a scan", failed, once + len(queue))
-            return 1
-        if failed != once + passes * len(queue) or passes < 1:
-            self._counter_differs("split_failed of a scan", failed, f"{once} + {len(queue)} for each pass")
-            return by_queue
-        if turned is not None and turned != bool(passes % 2):
-            self._counter_differs(f"order of the queue after {passes} passes by split_failed", "so", "turned around")
-            return by_queue
-        return passes
+            return fewest
+        failed = total - self._failed[order] - once
+        if self._scans_exactly:
+            count = sum(map(len, lists.values()))
+            fits, wanted = failed == count and False not in turned.values(), str(once + count)
+        else:
+            fits = can_fail(failed, [(len(pages), turned[number]) for number, pages in lists.items()])
+            passes = {None: "pass", True: "pass, an odd number", False: "pass, an even number"}
+            each = [f"{len(pages)} for each {passes[turned[number]]}" for number, pages in lists.items()]
+            wanted = " + ".join([str(once), *each])
+        if not fits:
+            self._counter_differs("split_failed of a scan", failed + once, wanted)
+        return failed if fits else fewest
 
     def _counter_differs(self, what: str, kernel: object, model: object) -> None:
         """Keeps the first difference of a counter that the kernel has; no other is compared afterwards."""
@@ -270,6 +242,14 @@ def lists_of(queue: Sequence[int], numa_nodes: dict[int, int]) -> Lists:
 def join_lists(lists: Lists) -> list[int]:
     """Returns the lists in the order of their NUMA nodes as one."""
     return [page for pages in lists.values() for page in pages]
+
+
+def is_turned(queue: list[int], observed: list[int] | None) -> bool | None:
+    """Returns whether the kernel's queue has the pages that stayed in reverse order, which an odd number of passes leaves; None
+    where the queue can't show it."""
+    if queue == queue[::-1] or observed not in (queue, queue[::-1]):
+        return None
+    return observed != queue
 
 
 def can_fail(failed: int, lists: Sequence[tuple[int, bool | None]]) -> bool:

@@ -155,23 +155,21 @@ def fold_batches(answers: list[ExpectedAnswer]) -> list[ExpectedAnswer]:
     out: list[ExpectedAnswer] = []
     at = 0
     while at < len(answers):
-        batch = _batch_at(answers, at)
-        if batch:
+        batch = answers[at:at + batch_at(answers, at)]
+        if batch and not batch[0].is_refused and any(each.answer == "done" for each in batch[1:-1]):
             events = tuple(event for each in batch for event in each.events)
             answer = f"{batch[0].answer}, tried to the end, {batch[-1].answer}"
             out.append(ExpectedAnswer(batch[0].place, ("scan", *batch[0].words[1:3]), answer, events))
+            at += len(batch)
         else:
             out.append(answers[at])
-        at += len(batch) or 1
+            at += 1
     return out
 
 
-def _batch_at(answers: list[ExpectedAnswer], at: int) -> list[ExpectedAnswer]:
-    """Returns the answers from the `take` to the `putback` of such a batch, or none where no such batch begins."""
-    take, node = answers[at], answers[at].words[1]
-    if take.words[0] != "take" or take.is_refused:
-        return []
-    tries = list(takewhile(lambda each: [*each.words[:2]] == ["splitnext", node], answers[at + 1:]))
-    last = answers[at + 1 + len(tries):][:1]
-    is_tried = any(each.answer == "done" for each in tries)
-    return [take, *tries, *last] if is_tried and last and [*last[0].words[:2]] == ["putback", node] else []
+def batch_at(commands: Sequence[Command | ExpectedAnswer], at: int) -> int:
+    """Returns how many commands a batch has that begins here, from the `take` to the `putback`; 0 where no such batch begins."""
+    words = [[*each.words[:2]] for each in commands[at:]]
+    tries = len(list(takewhile(lambda each: each == ["splitnext", *words[0][1:]], words[1:])))
+    is_batch = words[0][0] == "take" and words[tries + 1:tries + 2] == [["putback", *words[0][1:]]]
+    return tries + 2 if is_batch else 0

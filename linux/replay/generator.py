@@ -45,11 +45,16 @@ class Sketch:
     def mapped(self) -> bool:
         return bool(self.whole or self.parts)
 
-    def divide(self) -> None:
-        """Turns a PMD mapping, if there is one, into PTE mappings."""
-        if self.whole:
-            self.whole -= 1
-            self.parts.append(self.every)
+    def change(self, word: str) -> bool:
+        """Does a command without operands, if it can be done; returns whether."""
+        needed = {"mapwhole": self.whole and not self.split, "pin": self.mapped and self.pins < 3, "unpin": self.pins}
+        if not needed.get(word, self.whole):
+            return False
+        self.whole += {"pin": 0, "unpin": 0, "mapwhole": 1}.get(word, -1)
+        self.pins += {"pin": 1, "unpin": -1}.get(word, 0)
+        self.shared |= word == "mapwhole"
+        self.parts += [self.every] if word == "splitpmd" else []
+        return True
 
     def drop(self, part: int, bits: int) -> None:
         """Drops PTE mappings."""
@@ -74,8 +79,9 @@ class Generator:
         self._length = chance.randint(8, shape.length)
         self._node = self._number = 0
         self._kinds: list[tuple[float, Callable[[Sketch], None]]] = [
-            (5, self._partial_unmap), (3, self._splitpmd), (5, self._unmap), (1, self._unmapwhole), (1, self._mapwhole), (2, self._map),
-            (2, self._pin), (1, self._unpin), (2, self._scan), (0.3, self._batch), (1.5, lambda page: self._fill(page, "write")),
+            (5, self._partial_unmap), (3, self._changed("splitpmd")), (5, self._unmap), (1, self._changed("unmapwhole")),
+            (1, self._changed("mapwhole")), (2, self._map), (2, self._changed("pin")), (1, self._changed("unpin")),
+            (2, self._scan), (0.3, self._batch), (1.5, lambda page: self._fill(page, "write")),
             (0.5, lambda page: self._fill(page, "zero")), (0.5, lambda page: self._add("count", page=False)),
             (0.5, self._refused_command),
         ]
@@ -103,6 +109,9 @@ class Generator:
     def _add(self, word: str, *operands: int, page: bool = True) -> None:
         self._lines.append(" ".join(map(str, [word, self._node, *([self._number] if page else []), *operands])))
 
+    def _changed(self, word: str) -> Callable[[Sketch], None]:
+        return lambda page: self._add(word) if page.change(word) else None
+
     def _range(self, low: int, count: int) -> tuple[int, int]:
         """Returns a range inside the one given, often one that touches an end or has a round size."""
         chance = self._chance
@@ -118,21 +127,6 @@ class Generator:
         page.whole, page.parts = 0, [page.every & ~bits_of(first, count)]
         self._add("splitpmd")
         self._add("unmap", first, count)
-
-    def _splitpmd(self, page: Sketch) -> None:
-        if page.whole:
-            page.divide()
-            self._add("splitpmd")
-
-    def _unmapwhole(self, page: Sketch) -> None:
-        if page.whole:
-            page.whole -= 1
-            self._add("unmapwhole")
-
-    def _mapwhole(self, page: Sketch) -> None:
-        if page.whole and not page.split:
-            page.whole, page.shared = page.whole + 1, True
-            self._add("mapwhole")
 
     def _unmap(self, page: Sketch) -> None:
         if page.parts:
@@ -150,16 +144,6 @@ class Generator:
             page.parts.append(bits_of(first, count))
             page.shared = True
             self._add("map", first, count)
-
-    def _pin(self, page: Sketch) -> None:
-        if page.mapped and page.pins < 3:
-            page.pins += 1
-            self._add("pin")
-
-    def _unpin(self, page: Sketch) -> None:
-        if page.pins:
-            page.pins -= 1
-            self._add("unpin")
 
     def _fill(self, page: Sketch, word: str) -> None:
         if page.mapped and not page.shared:
@@ -186,12 +170,10 @@ class Generator:
     def _refused_command(self, page: Sketch) -> None:
         """Adds a command that is often refused."""
         kind = self._chance.randrange(5)
-        if kind == 0:
-            self._add("unpin")
-            page.pins -= bool(page.pins)
-        elif kind == 1:
-            self._add("splitpmd")
-            page.divide()
+        if kind < 2:
+            word = ("unpin", "splitpmd")[kind]
+            self._add(word)
+            page.change(word)
         elif kind == 2:
             self._add("unmap", 0, page.subpages + 1)
         elif kind == 3:

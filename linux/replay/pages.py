@@ -21,9 +21,8 @@ from ..common.errors import RunFailed
 from ..common.files import PMD_ORDER, SWITCH
 from ..common.page_files import PageFlag
 from ..common.script import Options
-from ..common.shrinker_debug import ShrinkerFile
 from ..common.subpages import bits_of, runs
-from .bench import Bench
+from .bench import Bench, ShrinkerFile
 from .expected_answers import PAGE_COMMANDS, ExpectedAnswer, Unsupported
 from .mappers import Mapper, Refusal
 from .states import NodeState, Observation, PageName, PageObservation, PageState

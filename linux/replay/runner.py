@@ -50,10 +50,6 @@ class Outcome:
         return f"agrees{known}" + (f", at another try after: {escape(self.text)}" if self.text else "")
 
 
-def ignore_line(_line: str) -> None:
-    """Prints nothing."""
-
-
 def print_line(line: str) -> None:
     """Prints a line."""
     print(line, flush=True)
@@ -65,7 +61,7 @@ class RunComparer:
     keeps each look."""
 
     sums: Tallies[str] = field(default_factory=Tallies)
-    report: Callable[[str], None] = ignore_line
+    report: Callable[[str], None] | None = None
     looks: list[Observation] | None = None
     compares: bool = True
 
@@ -80,7 +76,8 @@ class RunComparer:
             self._look(kernel, states, comparison)
             for expected in expected_run.answers:
                 comparison.command = expected
-                self.report(f"  {escape(comparison.where)} -> {escape(expected.answer)}")
+                if self.report:
+                    self.report(f"  {escape(comparison.where)} -> {escape(expected.answer)}")
                 self._run_command(expected, states, kernel)
                 self._look(kernel, states, comparison)
         except Difference as difference:

@@ -14,7 +14,7 @@ from ..common.errors import RunFailed
 from ..common.machine import kernel
 from ..common.script import MARK, Command, Options, Script, text_of
 from ..common.text import escape
-from .expected_answers import PAGE_COMMANDS
+from .expected_answers import PAGE_COMMANDS, batch_at
 from .runner import Outcome, Result
 
 SECONDS = 60.0  # that a script gets
@@ -159,12 +159,10 @@ def scan_batch(draft: Draft, _outcome: Outcome) -> Iterator[Draft]:
     """A scan instead of a batch that is taken, tried and put back."""
     commands = draft.commands
     for first, take in enumerate(commands):
-        node, end = take.words[1:2], first + 1
-        while end < len(commands) and [*commands[end].words] == ["splitnext", *node]:
-            end += 1
-        if take.words[0] == "take" and end < len(commands) and [*commands[end].words] == ["putback", *node]:
+        count = batch_at(commands, first)
+        if count:
             scan = replace(take, words=("scan", *take.words[1:]))
-            yield replace(draft, commands=(*commands[:first], scan, *commands[end + 1:]))
+            yield replace(draft, commands=(*commands[:first], scan, *commands[first + count:]))
 
 
 def drop_part(draft: Draft, _outcome: Outcome) -> Iterator[Draft]:

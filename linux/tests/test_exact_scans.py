@@ -11,7 +11,7 @@ from typing import Any, Dict, List, Tuple
 
 from ..common.errors import InputFault, Unavailable
 from ..common.script import Script, script_of
-from ..common.shrinker_debug import PREFIX, ShrinkerFile
+from ..replay.bench import SHRINKER, ShrinkerFile
 from ..replay.comparison import Difference
 from ..replay.expected_answers import Unsupported, expect_run
 from ..replay.generator import Shape, scripts
@@ -29,7 +29,7 @@ SCRIPT = script_of("parts", "\n".join([
 class ShrinkerFileTest(unittest.TestCase):
     def test_it_is_asked_for_a_group_a_node_and_a_count(self) -> None:
         with tempfile.TemporaryDirectory() as folder:
-            path = Path(folder) / f"{PREFIX}12" / "scan"
+            path = Path(folder) / f"{SHRINKER}12" / "scan"
             path.parent.mkdir()
             path.write_text("")
             ShrinkerFile(2, folder).scan(folder, 1, 8)

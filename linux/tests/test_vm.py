@@ -18,9 +18,8 @@ from unittest import mock
 from ..common.errors import InputFault, RunFailed, Unavailable
 from ..vm import init
 from ..vm.guest_files import LIBRARY, Archive, GuestFiles, libraries_of
-from ..vm.kernels import find_kernel
+from ..vm.kernels import extract_image, find_kernel, next_package
 from ..vm.options import parse_words
-from ..vm.packages import extract_image, next_package
 from ..vm.guest_run import Console, GuestRun, KvmFailed, MessageReader, parse_status
 from ..vm.virtual_machine import QEMU, VirtualMachine, memory_file, words_of
 

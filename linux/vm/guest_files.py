@@ -170,22 +170,17 @@ class GuestFiles:
             self._archive.add_link(str(self._checkout), LIBRARY)
         for name in sorted({"mapper", "thpkernel.so", *(path.name for path in (LINUX / "out").glob("*") if path.is_file())}):
             self._add_file(helper(name), f"{LIBRARY}/linux/out/{name}")
-        for name in TOOLS:
-            self._add_tool(name)
+        for name in TOOLS:  # so that its name alone starts it
+            places = (LINUX / name, LINUX / "whatif" / name, LINUX.parents[2] / "bin" / name)
+            place = next((str(place) for place in places if place.is_file()), None)
+            if place and self._is_checkout:
+                self._archive.add_link(f"/usr/bin/{name}", self.path_in_guest(place))
+            elif place:
+                self._add_file(place, f"/usr/bin/{name}")
         for name, built in (("thpsplit", BUILT), ("thpcheck", BUILT_CHECKER)):
             found = find(name, built)
             if found:
                 self._add_file(found, f"/usr/bin/{name}")
-
-    def _add_tool(self, name: str) -> None:
-        """Adds a tool, so that its name alone starts it."""
-        for place in (LINUX / name, LINUX / "whatif" / name, LINUX.parents[2] / "bin" / name):
-            if place.is_file():
-                if self._is_checkout:
-                    self._archive.add_link(f"/usr/bin/{name}", self.path_in_guest(str(place)))
-                else:
-                    self._add_file(str(place), f"/usr/bin/{name}")
-                return
 
     def _add_found(self, path: str | None) -> None:
         if path:

@@ -16,10 +16,10 @@ import argparse
 import sys
 from typing import Sequence
 
-from ..common.arguments import OneLineParser, seconds, tool_parser, whole
+from ..common.arguments import seconds, tool_parser, whole
 from ..common.errors import InputFault
 from ..common.text import escape
-from .packages import SUITE
+from .kernels import SUITE
 
 NAME = "thpvm"
 BOOT, SILENCE, MOST_SECONDS = 300.0, 120.0, 1e6
@@ -27,8 +27,8 @@ LEAST_MEMORY, MEMORY, MOST_MEMORY = 512, 2048, 1 << 20  # MiB
 MOST_NODES, MOST_PROCESSORS = 16, 64
 
 
-def make_parser() -> OneLineParser:
-    """Returns the parser of the words before the command."""
+def parse_words(given: Sequence[str] | None = None) -> argparse.Namespace:
+    """Returns the options of a command line, by default this process's own; `command` are the words after `--`."""
     parser = tool_parser(NAME, __doc__, usage="thpvm [options] KERNEL -- COMMAND [ARGS]")
     parser.add_argument("kernel", metavar="KERNEL", help="an image, a folder, or a package as linux-image-amd64")
     parser.add_argument("--suite", help="take the package from this Debian suite, as trixie-backports")
@@ -50,14 +50,9 @@ def make_parser() -> OneLineParser:
                         help=f"time after which a guest without a sign hangs ({SILENCE:g})")
     parser.add_argument("--bisect", action="store_true", help="every error of thpvm itself has status 125, for git bisect run")
     parser.add_argument("-v", "--verbose", action="store_true", help="report the kernel's release and the times")
-    return parser
-
-
-def parse_words(given: Sequence[str] | None = None) -> argparse.Namespace:
-    """Returns the options of a command line, by default this process's own; `command` are the words after `--`."""
     words: list[str] = list(sys.argv[1:] if given is None else given)
     at = words.index("--") if "--" in words else len(words)
-    options = make_parser().parse_args(words[:at])
+    options = parser.parse_args(words[:at])
     options.command = words[at + 1:]
     if not options.command or not options.command[0]:
         raise InputFault("no command: thpvm [options] KERNEL -- COMMAND [ARGS]")

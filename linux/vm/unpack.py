@@ -2,7 +2,7 @@
 
     unpack.py --fsys-tarfile|--ctrl-tarfile PACKAGE PATTERN BYTES
 
-Run by packages.py as a process with limits: a package may be anybody's. Nothing is written where there is no such file.
+Run by kernels.py as a process with limits: a package may be anybody's. Nothing is written where there is no such file.
 """
 
 from __future__ import annotations
