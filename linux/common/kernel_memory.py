@@ -77,8 +77,6 @@ class KernelMemory:
         self._demand(self._try(name, request))
         return request
 
-    # control groups and queues
-
     def group(self, path: str) -> int:
         """Returns the address of the struct mem_cgroup whose folder is `path`."""
         folder = os.open(path, os.O_RDONLY | os.O_DIRECTORY | os.O_CLOEXEC)
@@ -127,8 +125,6 @@ class KernelMemory:
                         return Queue(folios, request.length, node)
         raise Unavailable(f"the queue of {group:#x} changes all the time")
 
-    # structures of pages
-
     def page_size(self) -> int:
         """Returns the bytes of a struct page."""
         return int(self._window.page_size)
@@ -154,8 +150,6 @@ class KernelMemory:
             state.frame = frame
         self._run("look_at_pages", found=len(frames))
         return states[: len(frames)]
-
-    # page tables and contents
 
     def tables(self) -> Tables:
         """Returns what reads page tables."""

@@ -157,9 +157,7 @@ class Reader:
         self.left_out += Counter({PARTS_MOVED: answer.changed, SMALL: answer.small})
         self.unread += Counter({beyond: lost})
 
-    def take(
-        self, address: int, head: int, flags: int, process: int, order: int, by_pmd: int, _: int, raw: bytes
-    ) -> None:
+    def take(self, address: int, head: int, flags: int, process: int, order: int, by_pmd: int, _: int, raw: bytes) -> None:
         """Adds a piece: how a process maps a huge page."""
         folio = self.folios.get(head)
         if folio is None or folio.order != order:

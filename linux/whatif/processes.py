@@ -9,7 +9,7 @@ from dataclasses import dataclass, field
 from ..common import proc
 from ..common.errors import InputFault, Unavailable
 from ..common.groups import checked_group
-from ..common.proc import is_own, members, missing_capabilities
+from ..common.proc import members, missing_capabilities
 from ..common.text import escape
 
 
@@ -41,9 +41,7 @@ class ProcessChoice:
             try:
                 out |= set(members(path))
             except OSError as error:
-                if is_own(error):
-                    raise
-                unread[f"control group {escape(path)}: {error.strerror}"] += 1
+                unread[f"control group {escape(path)}: {proc.reason_of(error)}"] += 1
         if self.everything:
             out |= set(proc.processes())
             out.discard(os.getpid())
