@@ -99,7 +99,7 @@ class Bench:
         group, memory = self.servers[node].group, self.memory
         if memory is None or group is None:
             return None
-        return {each.numa_node: [memory.frame(folio) for folio in each.folios] for each in memory.queues(group)}
+        return {numa: [memory.frame(folio) for folio in folios] for numa, folios in memory.queues(group).items()}
 
     def close(self) -> None:
         """Ends all processes."""

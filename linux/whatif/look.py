@@ -102,7 +102,7 @@ class SnapshotTaker:
         notes: list[str] = []
         for group in {self._groups.get(folio.cgroup, 0) for folio in folios} - {0} if self._is_ordered else ():
             try:
-                frames = [self._kernel.frame(folio) for queue in self._kernel.queues(group) for folio in queue.folios]
+                frames = [self._kernel.frame(folio) for folios in self._kernel.queues(group).values() for folio in folios]
                 out.update({frame: place for place, frame in enumerate(frames) if frame in wanted})
             except Unavailable as error:
                 notes = [f"the order of pages isn't known in each queue: {error}"]
