@@ -40,9 +40,6 @@ HIERARCHIES = ("freezer", "memory")  # of version 1: those that end or freeze pr
 Entry = Dict[str, Any]
 
 
-# what is on disk
-
-
 def read_entries(path: str) -> tuple[list[Entry], list[str]]:
     """Returns the entries of a file of orders, oldest first, and a line for each of its lines that can't be read."""
     try:
@@ -93,9 +90,6 @@ def replace_entries(path: str, entries: list[Entry]) -> None:
             os.rename(new, path)
 
 
-# settings
-
-
 def write(path: str | os.PathLike[str], text: object) -> None:
     """Writes a text into a file that exists, by one write, as sysfs and cgroupfs need it."""
     descriptor = os.open(path, os.O_WRONLY | os.O_TRUNC | os.O_CLOEXEC)
@@ -135,9 +129,6 @@ def restore(path: str, texts: list[str]) -> str:
     except OSError as error:
         return f"{path} could not be put back to {former!r}: {error.strerror}" if os.path.exists(path) else ""
     return ""
-
-
-# control groups
 
 
 def hierarchies(mounts: str | None = None) -> list[tuple[str, str, str]]:
@@ -249,9 +240,6 @@ def groups_of(entries: list[Entry]) -> list[Entry]:
             if os.stat(path).st_ino == entry.get("inode") or not entry.get("inode"):
                 out.append(entry)
     return out
-
-
-# all of it
 
 
 def put_back(entries: list[Entry], pidfds: list[int]) -> tuple[list[str], list[Entry]]:

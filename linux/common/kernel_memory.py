@@ -9,7 +9,6 @@ from __future__ import annotations
 import ctypes
 import mmap
 import os
-from dataclasses import dataclass
 from typing import NamedTuple, Sequence
 
 from .errors import Unavailable
@@ -35,15 +34,6 @@ class Tables(NamedTuple):
     copies: int
     map: int
     levels: int
-
-
-@dataclass(frozen=True)
-class Queue:
-    """A deferred split queue at one moment."""
-
-    folios: list[int]  # addresses of struct folio, oldest first
-    length: int  # as the kernel counts it (split_queue_len, nr_items)
-    numa_node: int = 0  # whose pages are in it, where the group has a queue for each NUMA node
 
 
 class KernelMemory:
@@ -77,8 +67,6 @@ class KernelMemory:
         self._demand(self._try(name, request))
         return request
 
-    # control groups and queues
-
     def group(self, path: str) -> int:
         """Returns the address of the struct mem_cgroup whose folder is `path`."""
         folder = os.open(path, os.O_RDONLY | os.O_DIRECTORY | os.O_CLOEXEC)
@@ -110,11 +98,12 @@ class KernelMemory:
             return f"deferred_split_lru, a list_lru; NUMA nodes: {', '.join(map(str, self.numa_nodes()))}"
         return "mem_cgroup.deferred_split_queue"
 
-    def queues(self, group: int) -> list[Queue]:
-        """Returns the deferred split queues of the struct mem_cgroup at this address: one, or one for each NUMA node."""
-        return [self._queue(group, node or 0) for node in self.numa_nodes()]
+    def queues(self, group: int) -> dict[int, list[int]]:
+        """Returns the pages (struct folio) in the deferred split queues of the struct mem_cgroup at this address, oldest first, by
+        NUMA node; 0: those of all nodes, where the group has one queue."""
+        return {node or 0: self._queue(group, node or 0) for node in self.numa_nodes()}
 
-    def _queue(self, group: int, node: int) -> Queue:
+    def _queue(self, group: int, node: int) -> list[int]:
         for _ in range(TRIES):
             request, answer = Request(group=group, numa_node=node), 0
             folios: list[int] = []
@@ -124,10 +113,8 @@ class KernelMemory:
                     self._demand(answer)
                     folios += self._window.folios[: request.found]
                     if not request.at:
-                        return Queue(folios, request.length, node)
+                        return folios
         raise Unavailable(f"the queue of {group:#x} changes all the time")
-
-    # structures of pages
 
     def page_size(self) -> int:
         """Returns the bytes of a struct page."""
@@ -154,8 +141,6 @@ class KernelMemory:
             state.frame = frame
         self._run("look_at_pages", found=len(frames))
         return states[: len(frames)]
-
-    # page tables and contents
 
     def tables(self) -> Tables:
         """Returns what reads page tables."""

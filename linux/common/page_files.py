@@ -6,6 +6,7 @@ one 64-bit number for each base page; frames are counted from 0.
 
 from __future__ import annotations
 
+import io
 import os
 from array import array
 from typing import Sequence
@@ -34,32 +35,21 @@ class TooShort(OSError):
     """A file ends before what is to be read: the process has ended, or memory was taken from the machine."""
 
 
-class NumberFile:
-    """A file of 64-bit numbers, open until `close` or the end of a `with`. Unavailable where there is none for the caller."""
+class NumberFile(io.FileIO):
+    """A file of 64-bit numbers. Unavailable where there is none for the caller."""
 
     def __init__(self, path: str) -> None:
         try:
-            self.descriptor = os.open(path, os.O_RDONLY | os.O_CLOEXEC)
+            super().__init__(path)
         except (FileNotFoundError, PermissionError) as error:
             raise Unavailable(f"{path} can't be read: {error.strerror} (PROC_PAGE_MONITOR, root)") from error
-        self.path = path
 
     def at(self, first: int, count: int) -> Sequence[int]:
         """Returns `count` numbers from place `first` on. TooShort where the file ends before."""
-        raw = os.pread(self.descriptor, 8 * count, 8 * first)
+        raw = os.pread(self.fileno(), 8 * count, 8 * first)
         if len(raw) != 8 * count:
-            raise TooShort(0, f"{self.path} ends early", self.path)
+            raise TooShort(0, f"{self.name!r} ends early")
         return array("Q", raw)
-
-    def close(self) -> None:
-        """Closes the file."""
-        os.close(self.descriptor)
-
-    def __enter__(self) -> NumberFile:
-        return self
-
-    def __exit__(self, *_: object) -> None:
-        self.close()
 
 
 def frame_of_entry(entry: int) -> int | None:

@@ -71,8 +71,7 @@ static int run_program(int program, void *context, long size) {
 /* linux/kernel/shared.h: struct thp_request */
 struct table_request { uint64_t group, numa_node, at, found, length; };
 
-/* The frame of an entry that has one of these bits, or 0. That of an entry that isn't present is stored inverted
- * (arch/x86/include/asm/pgtable-invert.h). */
+/* The frame of an entry that has one of these bits, or 0. It is inverted in one that isn't present (asm/pgtable-invert.h). */
 static uint64_t frame_of(uint64_t entry, uint64_t bits) {
     return entry & bits ? ((entry & PRESENT ? entry : ~entry) & FRAME_BITS) / BASE : 0;
 }
@@ -180,8 +179,8 @@ static void take_entries(struct walk *w, uint64_t at, const uint64_t *entries) {
     }
 }
 
-/* Takes what a page table that is so many levels above PTEs maps, and begins at an address, between `start` and `end`. A table
- * that changes meanwhile has frames whose flags don't fit, or that a second look doesn't find. */
+/* Takes what a page table, so many levels above PTEs, maps from `begin` on, between `start` and `end`. One that changes meanwhile
+ * has frames whose flags don't fit, or that a second look doesn't find. */
 static void walk_table(struct walk *w, uint64_t table, int level, uint64_t begin, uint64_t start, uint64_t end) {
     uint64_t entries[ENTRIES], size = (uint64_t)BASE << TABLE_BITS * level;
     struct table_request request = { .at = w->tables->map + table, .found = (uint64_t)w->tables->place };
@@ -258,8 +257,7 @@ static void take_line(struct texts *t, const char *line) {
     }
 }
 
-/* Takes each line of an open file, and closes it; of long ones the begin. Returns 0, or -errno. A line counts by its first
- * characters, and ends at a line feed, which the kernel escapes in names: no name is taken for another line. */
+/* Takes the begin of each line of an open file, and closes it; returns 0, or -errno. The kernel escapes line feeds in names. */
 static long read_texts(int file, struct texts *t) {
     char text[TEXT], line[LINE];
     long length = 0, got = -1;

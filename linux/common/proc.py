@@ -50,16 +50,16 @@ def name_of(process: int) -> str:
     return escape(name[:-1] if name.endswith(b"\n") else name) or "?"
 
 
-def is_own(error: Exception) -> bool:
-    """Returns whether an error is the tool's own: it lacks descriptors or memory."""
-    return isinstance(error, OSError) and error.errno in (errno.EMFILE, errno.ENFILE, errno.ENOMEM)
+def reason_of(why: Exception) -> str:
+    """Returns why something isn't read, in words. Raises an error that is the tool's own: it lacks descriptors or memory."""
+    if isinstance(why, OSError) and why.errno in (errno.EMFILE, errno.ENFILE, errno.ENOMEM):
+        raise why
+    return getattr(why, "strerror", None) or str(why)
 
 
 def describe(process: int, why: Exception) -> str:
-    """Returns that a process isn't read, and why, in words. Raises an error that is the tool's own."""
-    if is_own(why):
-        raise why
-    return f"process {process} ({name_of(process)}): {getattr(why, 'strerror', None) or why}"
+    """Returns that a process isn't read, and why: see `reason_of`."""
+    return f"process {process} ({name_of(process)}): {reason_of(why)}"
 
 
 def stat_fields(process: int) -> list[bytes]:

@@ -75,7 +75,7 @@ class Reader:
         if os.path.exists("/proc/kpagecgroup"):  # else a kernel without memory control groups: all pages are in one node
             self._files.append(NumberFile("/proc/kpagecgroup"))
         self._most = self._memory // (PIECE_COST + FOLIO_COST)
-        self._workers = Workers(self._files[0].descriptor, kernel.tables(), self._threads, self._most, with_small)
+        self._workers = Workers(self._files[0].fileno(), kernel.tables(), self._threads, self._most, with_small)
         self.spaces: dict[int, Space] = {}  # by process
         self.walked: dict[int, bytes] = {}  # the pieces of each process that has any
         self._locked: dict[int, Spans] = {}  # by process
@@ -157,9 +157,7 @@ class Reader:
         self.left_out += Counter({PARTS_MOVED: answer.changed, SMALL: answer.small})
         self.unread += Counter({beyond: lost})
 
-    def take(
-        self, address: int, head: int, flags: int, process: int, order: int, by_pmd: int, _: int, raw: bytes
-    ) -> None:
+    def take(self, address: int, head: int, flags: int, process: int, order: int, by_pmd: int, _: int, raw: bytes) -> None:
         """Adds a piece: how a process maps a huge page."""
         folio = self.folios.get(head)
         if folio is None or folio.order != order:

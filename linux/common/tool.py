@@ -21,11 +21,9 @@ def open_standard_streams() -> None:
             os.fstat(number)
         except OSError:
             os.open(os.devnull, os.O_RDWR)
-    for name in ("stdout", "stderr"):
+    for name, mode in (("stdin", "r"), ("stdout", "w"), ("stderr", "w")):
         if getattr(sys, name) is None:
-            setattr(sys, name, open(os.devnull, "w", encoding="utf-8"))
-    if sys.stdin is None:
-        sys.stdin = open(os.devnull, encoding="utf-8")
+            setattr(sys, name, open(os.devnull, mode, encoding="utf-8"))
 
 
 def write_nothing_more() -> None:

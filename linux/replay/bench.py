@@ -112,7 +112,7 @@ class Bench:
         if memory is None:
             return None
         found = memory.queues(self.servers[node].group)
-        return {each.numa_node: [memory.frame(folio) for folio in each.folios] for each in found}
+        return {numa: [memory.frame(folio) for folio in folios] for numa, folios in found.items()}
 
     def close(self) -> None:
         """Ends all processes."""

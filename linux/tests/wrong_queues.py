@@ -18,29 +18,29 @@ sys.path.insert(0, str(Path(__file__).resolve().parent.parent.parent))
 sys.dont_write_bytecode = True
 
 from linux.common.groups import find_hierarchy  # noqa: E402
-from linux.common.kernel_memory import KernelMemory, Queue  # noqa: E402
+from linux.common.kernel_memory import KernelMemory  # noqa: E402
 from linux.replay.__main__ import start  # noqa: E402
 
 READ = KernelMemory.queues
+Queues = Dict[int, List[int]]  # pages by NUMA node
 
 
-def read_in_reverse(memory: KernelMemory, group: int) -> List[Queue]:
+def read_in_reverse(memory: KernelMemory, group: int) -> Queues:
     """Returns a group's queues, each from its end."""
-    return [Queue(each.folios[::-1], each.length, each.numa_node) for each in READ(memory, group)]
+    return {node: folios[::-1] for node, folios in READ(memory, group).items()}
 
 
-def read_with_others(memory: KernelMemory, group: int) -> List[Queue]:
+def read_with_others(memory: KernelMemory, group: int) -> Queues:
     """Returns a group's queues with those of all other groups."""
-    out: Dict[int, Queue] = {}
+    out: Queues = {}
     others = {memory.group(path) for path, _, _ in os.walk(find_hierarchy().mount)}
     for address in [group, *sorted(others - {group})]:
-        for each in READ(memory, address):
-            former = out.get(each.numa_node, Queue([], 0, each.numa_node))
-            out[each.numa_node] = Queue(former.folios + each.folios, former.length + each.length, each.numa_node)
-    return [out[node] for node in sorted(out)]
+        for node, folios in READ(memory, address).items():
+            out[node] = out.get(node, []) + folios
+    return dict(sorted(out.items()))
 
 
-BUGS: Dict[str, Callable[[KernelMemory, int], List[Queue]]] = {"reverse": read_in_reverse, "other": read_with_others}
+BUGS: Dict[str, Callable[[KernelMemory, int], Queues]] = {"reverse": read_in_reverse, "other": read_with_others}
 
 
 if __name__ == "__main__":

@@ -21,7 +21,7 @@ from ..common.groups import checked_group, find_hierarchy
 from ..common.kernel_library import STATES, PageState
 from ..common.kernel_memory import KernelMemory
 from ..common.machine import first_line, namespace_note
-from ..common.proc import group_names, is_own, machine_huge, members, missing_capabilities, name_of
+from ..common.proc import group_names, machine_huge, members, missing_capabilities, name_of, reason_of
 from ..common.reader import HIDDEN, MEMORY, Progress, Reader
 from ..common.second_look import Changes, SecondLook
 from ..common.text import escape
@@ -56,9 +56,7 @@ class ProcessChoice:
             try:
                 out |= set(members(path))
             except OSError as error:
-                if is_own(error):
-                    raise
-                unread[f"control group {escape(path)}: {error.strerror}"] += 1
+                unread[f"control group {escape(path)}: {reason_of(error)}"] += 1
         if self.everything:
             out |= set(proc.processes())
             out.discard(os.getpid())
@@ -132,7 +130,7 @@ class SnapshotTaker:
         notes: list[str] = []
         for group in {self._groups.get(folio.cgroup, 0) for folio in folios} - {0} if self._is_ordered else ():
             try:
-                frames = [self._kernel.frame(folio) for queue in self._kernel.queues(group) for folio in queue.folios]
+                frames = [self._kernel.frame(folio) for folios in self._kernel.queues(group).values() for folio in folios]
                 out.update({frame: place for place, frame in enumerate(frames) if frame in wanted})
             except Unavailable as error:
                 notes = [f"the order of pages isn't known in each queue: {error}"]
