@@ -30,7 +30,7 @@ def add_choice(words: argparse.ArgumentParser) -> None:
     words.add_argument(
         "--queued", choices=("seen", "all"), default="seen", help="all: as if each page were still in its queue"
     )
-    words.add_argument("--no-kernel", action="store_true", help="do without BPF: queues and pins are guessed")
+    words.add_argument("--no-kernel", action="store_true", help="guess queues and pins instead of reading them")
 
 
 def add_memory(words: argparse.ArgumentParser) -> None:
@@ -111,7 +111,7 @@ def add_verify(words: argparse.ArgumentParser) -> None:
     words.add_argument("--wait", action="store_true", help="wait until another tool that changes the machine has ended")
     words.add_argument("--running", action="store_true", help="don't hold the pages still until the comparison")
     words.add_argument("--enabled", choices=("always", "madvise"), help="transparent_hugepage/enabled meanwhile")
-    words.add_argument("--no-kernel", action="store_true", help="do without BPF: queues and pins are guessed")
+    words.add_argument("--no-kernel", action="store_true", help="guess queues and pins instead of reading them")
     words.add_argument("--keep", default="", metavar="FOLDER", help="write what each trial saw there")
     words.add_argument("--verbose", action="store_true", help="a line for each trial")
     words.add_argument("words", nargs="*", metavar="-- COMMAND", help="a command to try instead of known pages")
