@@ -71,29 +71,12 @@ static uint32_t find_member(const struct btf *types, uint32_t id, const char *na
 	return found;
 }
 
-/* Whether each number and pointer of a struct is as large as the kernel's; structures are found by their fields, arrays by elements. */
-static bool has_sizes(const struct btf *own, const struct btf_type *type, const char *name, const struct btf *kernel, int32_t id)
-{
-	for (int i = 0; i < btf_vlen(type); i++) {
-		const struct btf_member *member = btf_members(type) + i;
-		const char *field = btf__name_by_offset(own, member->name_off);
-		const struct btf_type *kind = btf__type_by_id(own, btf__resolve_type(own, member->type));
-		uint32_t other = find_member(kernel, id, field);
-		long long size = btf__resolve_size(own, member->type), found = btf__resolve_size(kernel, other);
-
-		if (!other || found == size || !(btf_is_int(kind) || btf_is_ptr(kind) || btf_is_any_enum(kind)))
-			continue;
-		fprintf(messages, "struct %s.%s has %lld bytes in this kernel, not %lld\n", name, field, found, size);
-		return false;
-	}
-	return true;
-}
-
-/* The same for all types of the programs. Those whose names begin with thp_ are our own; those without a name are of maps. */
+/*
+ * Whether each number and pointer of the programs' types is as large as the running kernel's; if not, a message names it. Structures
+ * are found by their fields, arrays by their elements. Types whose names begin with thp_ are our own; those without a name are of maps.
+ */
 static bool has_kernel_sizes(const struct btf *own, const struct btf *kernel)
 {
-	bool are_same = true;
-
 	for (uint32_t i = 1; i < btf__type_cnt(own); i++) {
 		const struct btf_type *type = btf__type_by_id(own, i);
 		char name[NAMES];
@@ -105,9 +88,20 @@ static bool has_kernel_sizes(const struct btf *own, const struct btf *kernel)
 		if (strstr(name, "___"))
 			*strstr(name, "___") = 0;
 		id = btf__find_by_name_kind(kernel, name, BTF_KIND_STRUCT);
-		are_same = (id < 0 || has_sizes(own, type, name, kernel, id)) && are_same;
+		for (int j = 0; id >= 0 && j < btf_vlen(type); j++) {
+			const struct btf_member *member = btf_members(type) + j;
+			const char *field = btf__name_by_offset(own, member->name_off);
+			const struct btf_type *kind = btf__type_by_id(own, btf__resolve_type(own, member->type));
+			uint32_t other = find_member(kernel, id, field);
+			long long size = btf__resolve_size(own, member->type), found = btf__resolve_size(kernel, other);
+
+			if (!other || found == size || !(btf_is_int(kind) || btf_is_ptr(kind) || btf_is_any_enum(kind)))
+				continue;
+			fprintf(messages, "struct %s.%s has %lld bytes in this kernel, not %lld\n", name, field, found, size);
+			return false;
+		}
 	}
-	return are_same;
+	return true;
 }
 
 /* Returns the value of an enumerator, also of an enumeration without a name; -1: there is none, and a message says so. */
