@@ -20,52 +20,36 @@
 #include "memory.skel.h"
 #include "record.skel.h"
 
-enum { PIECE = 1 << 18, HEAD = 8, NAMES = 80 };
+enum { PIECE = 1 << 18, NAMES = 80 };
 
 /* messages */
 
-static __thread char *kept;	/* while programs are opened: warnings of libbpf and ours, of all of them the last */
-static __thread size_t kept_room;
-
-/* Appends a text; where there is no room for it, it replaces what is there, and of itself the end is kept. */
-static void keep(const char *format, va_list words)
-{
-	size_t used, length, skipped;
-	char *text;
-
-	if (!kept || vasprintf(&text, format, words) < 0)
-		return;
-	used = strlen(kept);
-	length = strlen(text);
-	skipped = length >= kept_room ? length - kept_room + 1 : 0;
-	if (used + length >= kept_room)
-		used = 0;
-	memcpy(kept + used, text + skipped, length - skipped + 1);
-	free(text);
-}
+static __thread FILE *messages;	/* while programs are opened: warnings of libbpf, and our own */
+static __thread char *said;
+static __thread size_t length;
 
 static int print(enum libbpf_print_level level, const char *format, va_list words)
 {
-	if (level == LIBBPF_WARN)
-		keep(format, words);
-	return 0;
+	return level == LIBBPF_WARN && messages ? vfprintf(messages, format, words) : 0;
 }
 
-static void begin_messages(char *text, size_t size)
+static bool begin_messages(void)
 {
-	kept = text;
-	kept_room = size;
-	*text = 0;
+	messages = open_memstream(&said, &length);
 	libbpf_set_print(print);
+	return messages;
 }
 
-__attribute__((format(printf, 1, 2))) static void add_message(const char *format, ...)
+/* Copies the end of what was said, as far as there is room. */
+static void end_messages(char *text, size_t size)
 {
-	va_list words;
+	size_t skipped;
 
-	va_start(words, format);
-	keep(format, words);
-	va_end(words);
+	fclose(messages);
+	messages = NULL;
+	skipped = length >= size ? length - size + 1 : 0;
+	memcpy(text, said + skipped, length - skipped + 1);
+	free(said);
 }
 
 /* the running kernel's types */
@@ -87,29 +71,12 @@ static uint32_t find_member(const struct btf *types, uint32_t id, const char *na
 	return found;
 }
 
-/* Whether each number and pointer of a struct is as large as the kernel's; structures are found by their fields, arrays by elements. */
-static bool has_sizes(const struct btf *own, const struct btf_type *type, const char *name, const struct btf *kernel, int32_t id)
-{
-	for (int i = 0; i < btf_vlen(type); i++) {
-		const struct btf_member *member = btf_members(type) + i;
-		const char *field = btf__name_by_offset(own, member->name_off);
-		const struct btf_type *kind = btf__type_by_id(own, btf__resolve_type(own, member->type));
-		uint32_t other = find_member(kernel, id, field);
-		long long size = btf__resolve_size(own, member->type), found = btf__resolve_size(kernel, other);
-
-		if (!other || found == size || !(btf_is_int(kind) || btf_is_ptr(kind) || btf_is_any_enum(kind)))
-			continue;
-		add_message("struct %s.%s has %lld bytes in this kernel, not %lld\n", name, field, found, size);
-		return false;
-	}
-	return true;
-}
-
-/* The same for all types of the programs. Those whose names begin with thp_ are our own; those without a name are of maps. */
+/*
+ * Whether each number and pointer of the programs' types is as large as the running kernel's; if not, a message names it. Structures
+ * are found by their fields, arrays by their elements. Types whose names begin with thp_ are our own; those without a name are of maps.
+ */
 static bool has_kernel_sizes(const struct btf *own, const struct btf *kernel)
 {
-	bool are_same = true;
-
 	for (uint32_t i = 1; i < btf__type_cnt(own); i++) {
 		const struct btf_type *type = btf__type_by_id(own, i);
 		char name[NAMES];
@@ -121,9 +88,20 @@ static bool has_kernel_sizes(const struct btf *own, const struct btf *kernel)
 		if (strstr(name, "___"))
 			*strstr(name, "___") = 0;
 		id = btf__find_by_name_kind(kernel, name, BTF_KIND_STRUCT);
-		are_same = (id < 0 || has_sizes(own, type, name, kernel, id)) && are_same;
+		for (int j = 0; id >= 0 && j < btf_vlen(type); j++) {
+			const struct btf_member *member = btf_members(type) + j;
+			const char *field = btf__name_by_offset(own, member->name_off);
+			const struct btf_type *kind = btf__type_by_id(own, btf__resolve_type(own, member->type));
+			uint32_t other = find_member(kernel, id, field);
+			long long size = btf__resolve_size(own, member->type), found = btf__resolve_size(kernel, other);
+
+			if (!other || found == size || !(btf_is_int(kind) || btf_is_ptr(kind) || btf_is_any_enum(kind)))
+				continue;
+			fprintf(messages, "struct %s.%s has %lld bytes in this kernel, not %lld\n", name, field, found, size);
+			return false;
+		}
 	}
-	return are_same;
+	return true;
 }
 
 /* Returns the value of an enumerator, also of an enumeration without a name; -1: there is none, and a message says so. */
@@ -136,7 +114,7 @@ static int64_t find_enumerator(const struct btf *types, const char *name)
 			if (!strcmp(btf__name_by_offset(types, btf_enum(type)[i].name_off), name))
 				return btf_enum(type)[i].val;
 	}
-	add_message("this kernel has no enumerator %s\n", name);
+	fprintf(messages, "this kernel has no enumerator %s\n", name);
 	return -1;
 }
 
@@ -165,7 +143,8 @@ struct memory_bpf *thp_memory_open(char *problem, size_t size)
 	struct btf *kernel;
 	bool fits;
 
-	begin_messages(problem, size);
+	if (!begin_messages())
+		return NULL;
 	kernel = btf__load_vmlinux_btf();
 	programs = kernel ? memory_bpf__open() : NULL;
 	fits = programs && has_kernel_sizes(bpf_object__btf(programs->obj), kernel);
@@ -174,7 +153,7 @@ struct memory_bpf *thp_memory_open(char *problem, size_t size)
 		memory_bpf__destroy(programs);
 		programs = NULL;
 	}
-	kept = NULL;
+	end_messages(problem, size);
 	return programs;
 }
 
@@ -204,54 +183,31 @@ struct thp_window *thp_memory_window(struct memory_bpf *programs)
 struct recorder {
 	struct record_bpf *programs;
 	struct ring_buffer *ring;
-	int file;
+	FILE *file;
 	long count;	/* records that were taken .. */
 	size_t room;	/* .. and bytes that the file may still grow by */
-	size_t filled;
-	char piece[PIECE];
 };
 
 void thp_record_close(struct recorder *recorder)
 {
 	ring_buffer__free(recorder->ring);
 	record_bpf__destroy(recorder->programs);
+	if (recorder->file)
+		fclose(recorder->file);
 	free(recorder);
-}
-
-/* Writes what was taken from the ring. Returns 0 or -errno. */
-static int flush(struct recorder *recorder)
-{
-	size_t done = 0;
-
-	while (done < recorder->filled) {
-		ssize_t wrote = write(recorder->file, recorder->piece + done, recorder->filled - done);
-
-		if (wrote < 0 && errno != EINTR)
-			return -errno;
-		if (wrote > 0)
-			done += wrote;
-	}
-	recorder->filled = 0;
-	return 0;
 }
 
 /* Keeps a record after a head of 8 bytes, its length, which is a multiple of 8. A negative result leaves it in the ring. */
 static int take_one(void *context, void *data, size_t size)
 {
 	struct recorder *recorder = context;
-	uint64_t length = size;
-	int failed = 0;
+	uint64_t head = size;
 
-	if (HEAD + size > recorder->room)
+	if (sizeof(head) + size > recorder->room)
 		return -EXFULL;
-	if (recorder->filled + HEAD + size > PIECE)
-		failed = flush(recorder);
-	if (failed)
-		return failed;
-	memcpy(recorder->piece + recorder->filled, &length, HEAD);
-	memcpy(recorder->piece + recorder->filled + HEAD, data, size);
-	recorder->filled += HEAD + size;
-	recorder->room -= HEAD + size;
+	if (fwrite_unlocked(&head, sizeof(head), 1, recorder->file) != 1 || fwrite_unlocked(data, size, 1, recorder->file) != 1)
+		return -errno;
+	recorder->room -= sizeof(head) + size;
 	recorder->count++;
 	return 0;
 }
@@ -265,7 +221,7 @@ static void leave_out(const struct btf *kernel, struct bpf_program *program, int
 	if (found >= least && found <= most)
 		return;
 	bpf_program__set_autoload(program, false);
-	add_message("%s aren't followed: this kernel's tracepoint %s %s\n", what, name,
+	fprintf(messages, "%s aren't followed: this kernel's tracepoint %s %s\n", what, name,
 		    found < 0 ? "isn't there" : "has other arguments");
 }
 
@@ -296,36 +252,40 @@ struct recorder *thp_record_open(const struct thp_settings *settings, char *prob
 	struct btf *kernel;
 	bool fits;
 
-	if (!recorder)
+	if (!recorder || !begin_messages())
 		return NULL;
-	begin_messages(problem, size);
 	kernel = btf__load_vmlinux_btf();
 	programs = recorder->programs = kernel ? record_bpf__open() : NULL;
 	fits = programs && configure(programs, settings, kernel);
 	btf__free(kernel);	/* several MiB, and loading has a copy of its own */
 	if (fits && !record_bpf__load(programs) && !record_bpf__attach(programs))
 		recorder->ring = ring_buffer__new(bpf_map__fd(programs->maps.ring), take_one, recorder, NULL);
-	kept = NULL;
+	end_messages(problem, size);
 	if (recorder->ring)
 		return recorder;
 	thp_record_close(recorder);
 	return NULL;
 }
 
-/* Writes the records that have come to a file, which may grow by `room` bytes. Returns 0 or -errno; -EXFULL: there was no room for
+/* Writes the records that have come to the recording's file, which may grow by `room` bytes. Returns 0 or -errno; -EXFULL: there was no room for
  * all. *count are written. */
 int thp_record_take(struct recorder *recorder, int file, size_t room, long *count)
 {
-	int taken, failed = 0;
+	int taken;
 
-	recorder->file = file;
+	if (!recorder->file) {
+		recorder->file = fdopen(dup(file), "w");
+		if (!recorder->file)
+			return -errno;
+		setvbuf(recorder->file, NULL, _IOFBF, PIECE);
+	}
 	recorder->room = room;
 	recorder->count = 0;
 	taken = ring_buffer__consume(recorder->ring);
-	if (taken >= 0 || taken == -EXFULL)
-		failed = flush(recorder);
 	*count = recorder->count;
-	return failed ? failed : taken < 0 ? taken : 0;
+	if (fflush(recorder->file))
+		return -errno;
+	return taken < 0 ? taken : 0;
 }
 
 /* Of programs in pairs a run is missed if both were left out. */

@@ -108,7 +108,7 @@ SEC("syscall")
 int read_queue(struct thp_request *request)
 {
 	/* a copy: the verifier refuses a context whose address was computed with */
-	struct thp_request run = *request;
+	struct thp_request run = { .group = request->group, .numa_node = request->numa_node, .at = request->at };
 	enum answer answer = walk_queue(&run);
 
 	*request = run;

@@ -46,11 +46,6 @@ static __always_inline bool matters(long number, struct pt_regs *regs, struct ta
 	return length && may_have(space, start >> (BASE_BITS + PMD_ORDER), (start + length - 1) >> (BASE_BITS + PMD_ORDER));
 }
 
-static __always_inline int send_enter(long number, struct pt_regs *regs, struct task_struct *task)
-{
-	return send(ENTER, task, VALUES(number, regs->di, regs->si, regs->dx, task->mm->brk));
-}
-
 static __always_inline int begin_call(struct pt_regs *regs, long number)
 {
 	struct task_struct *task;
@@ -75,7 +70,7 @@ static __always_inline int begin_call(struct pt_regs *regs, long number)
 		if (space)
 			space->all = 1;	/* where the mapping goes isn't known yet */
 	}
-	return send_enter(number, regs, task);
+	return send(ENTER, task, VALUES(number, regs->di, regs->si, regs->dx, task->mm->brk));
 }
 
 /*
@@ -160,7 +155,7 @@ static __always_inline int end_call(struct pt_regs *regs, long result)
 	if (!state->has_entered) {
 		if (!matters(number, regs, task))
 			return 0;
-		send_enter(number, regs, task);
+		send(ENTER, task, VALUES(number, regs->di, regs->si, regs->dx, task->mm->brk));
 	}
 	state->has_entered = false;
 	record = begin_with_queue(EXIT, task, VALUES(number, regs->di, regs->si, regs->dx, result));

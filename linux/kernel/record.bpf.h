@@ -85,17 +85,16 @@ static __always_inline int end_first(__u32 which)
 static __always_inline bool was_left_out(__u32 which)
 {
 	struct thp_pair *pair = bpf_map_lookup_elem(&pairs, &which);
-	__u64 done;
-	bool left_out;
+	__u64 seen;
 
 	if (!pair)
 		return false;
-	done = pair->done;
-	left_out = done == pair->seen;
-	pair->seen = done;
-	if (left_out)
-		__sync_fetch_and_add(&caught, 1);
-	return left_out;
+	seen = pair->seen;
+	pair->seen = pair->done;
+	if (pair->seen != seen)
+		return false;
+	__sync_fetch_and_add(&caught, 1);
+	return true;
 }
 
 #define PAIR(section, name, which, call, arguments...)		\

@@ -23,7 +23,7 @@ from ..common.numa import numa_frames
 from ..common.reader import Reader
 from ..common.second_look import SecondLook
 from .commands import PAUSE, Commands, Interrupts
-from .records import Kind, Record, pack_record
+from .records import HEAD, SET, Kind
 from .scratch import FOLDER
 from .store import Store
 
@@ -83,11 +83,11 @@ class ContentLooks:
         """Returns for each group, by its path, the records of what its pages contain; nothing before the time of the next look."""
         if time.monotonic() < self._due:
             return {}
-        out = {path: [pack_record(record) for record in self._look_at(path)] for path in self._paths}
+        out = {path: list(self._look_at(path)) for path in self._paths}
         self._due = time.monotonic() + self._every
         return out
 
-    def _look_at(self, path: str) -> Iterator[Record]:
+    def _look_at(self, path: str) -> Iterator[bytes]:
         began = time.monotonic_ns()
         reader = Reader(self._memory, min(self._orders) < PMD_ORDER, 1, memory=MOST_MEMORY)
         try:
@@ -97,8 +97,8 @@ class ContentLooks:
             now = time.monotonic_ns()
             for frame, folio in reader.folios.items():
                 if folio.order in self._orders:
-                    values = (self._memory.folio(frame), began, *(0,) * 7)
-                    yield Record(Kind.CONTENTS, now, 0, 0, values, None, (folio.known & ~folio.zero, folio.zero))
+                    head = HEAD.pack(Kind.CONTENTS, now, 0, 0, self._memory.folio(frame), began, *[0] * 8, 2 * SET // 8, 0)
+                    yield head + (folio.known & ~folio.zero).to_bytes(SET, "little") + folio.zero.to_bytes(SET, "little")
         finally:
             reader.close()
 

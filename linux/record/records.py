@@ -78,24 +78,11 @@ def parse_record(raw: bytes, place: int = 0) -> Record:
     """Returns a record by its bytes, which begin at a place."""
     words, at = HEAD.unpack_from(raw, place), place + HEAD.size
     kind, count = _KINDS[words[0]], words[14]
-    queue = contents = None
+    queue: list[int] | None = None
+    contents = None
     if kind in WITH_QUEUE and count <= QUEUE_MOST:
-        queue = without_repeats(list(struct.unpack_from(f"<{count}Q", raw, at)))
+        queue = list(struct.unpack_from(f"<{count}Q", raw, at))
+        queue = queue if len({*queue}) == len(queue) else None  # a walk of a list that changes may meet a page again
     elif kind is Kind.CONTENTS:
         contents = int.from_bytes(raw[at : at + SET], "little"), int.from_bytes(raw[at + SET : at + 2 * SET], "little")
     return Record(kind, words[1], words[2] & _WORD, words[3], words[4:13], queue, contents, False, words[13], words[15])
-
-
-def pack_record(record: Record) -> bytes:
-    """Returns the bytes of a record, as the trace programs make them; the task group's number is 0."""
-    if record.contents is not None:
-        rest, count = b"".join(each.to_bytes(SET, "little") for each in record.contents), 2 * SET // 8
-    else:
-        queue = record.queue or []
-        rest, count = struct.pack(f"<{len(queue)}Q", *queue), QUEUE_MOST + 1 if record.queue is None else len(queue)
-    return HEAD.pack(record.kind, record.time, record.task, record.space, *record.values, 0, count, 0) + rest
-
-
-def without_repeats(queue: list[int] | None) -> list[int] | None:
-    """Returns a queue, if no page is in it twice: a walk of a list that changes may meet one again."""
-    return queue if queue is not None and len({*queue}) == len(queue) else None

@@ -2,6 +2,7 @@
 
 from __future__ import annotations
 
+import itertools
 import os
 import tempfile
 from typing import IO, Iterable, Iterator
@@ -9,7 +10,8 @@ from typing import IO, Iterable, Iterator
 from ..common.errors import RunFailed
 
 FOLDER = "/var/tmp"
-PIECE = 1 << 20  # bytes that are written or read at a time
+PIECE = 1 << 20  # bytes that are read at a time
+LINES = 10000  # that are written at a time
 
 
 class ScratchFile:
@@ -45,15 +47,9 @@ class ScratchFile:
 
     def append_lines(self, lines: Iterable[str]) -> None:
         """Writes ASCII lines, given without their ends."""
-        piece: list[str] = []
-        length = 0
-        for line in lines:
-            piece.append(line)
-            length += len(line) + 1
-            if length >= PIECE:
-                self.append("\n".join([*piece, ""]).encode("ascii"))
-                piece, length = [], 0
-        self.append("\n".join([*piece, ""]).encode("ascii") if piece else b"")
+        rest = iter(lines)
+        while piece := "".join(f"{line}\n" for line in itertools.islice(rest, LINES)):
+            self.append(piece.encode("ascii"))
 
     def pieces(self) -> Iterator[bytes]:
         """Yields its content."""

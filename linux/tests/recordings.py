@@ -4,11 +4,12 @@ from __future__ import annotations
 
 import gzip
 import json
+import struct
 from dataclasses import replace
 from pathlib import Path
 from typing import Any, List
 
-from ..record.records import IN_FAULT, Kind, Record, pack_record, without_repeats
+from ..record.records import HEAD, IN_FAULT, QUEUE_MOST, SET, Kind, Record
 from ..record.store import Store
 
 BY_FAULT, IN_NONE = 0, 2  # in the fault of the task's last FAULT record, as stored recordings have it; in no fault
@@ -18,7 +19,7 @@ STORED = Path(__file__).resolve().parent / "stored"
 def record_from_json(to_json: list[Any]) -> Record:
     """Returns a record by what `to_json` gave."""
     kind, time, task, space, values, queue, *contents = to_json
-    out = Record(Kind(kind), time, task, space, tuple(values), without_repeats(queue))
+    out = Record(Kind(kind), time, task, space, tuple(values), None if queue and len({*queue}) < len(queue) else queue)
     out.contents = (contents[0][0], contents[0][1]) if contents else None
     return out
 
@@ -27,6 +28,16 @@ def read_recording(name: str) -> List[Record]:
     """The records of `stored/NAME.records.gz`."""
     with gzip.open(STORED / f"{name}.records.gz", "rt") as file:
         return [record_from_json(json.loads(line)) for line in file]
+
+
+def pack_record(record: Record) -> bytes:
+    """Returns the bytes of a record, as the trace programs make them; the task group's number is 0."""
+    if record.contents is not None:
+        rest, count = b"".join(each.to_bytes(SET, "little") for each in record.contents), 2 * SET // 8
+    else:
+        queue = record.queue or []
+        rest, count = struct.pack(f"<{len(queue)}Q", *queue), QUEUE_MOST + 1 if record.queue is None else len(queue)
+    return HEAD.pack(record.kind, record.time, record.task, record.space, *record.values, 0, count, 0) + rest
 
 
 def with_faults(records: List[Record]) -> List[Record]:

@@ -38,7 +38,8 @@ FAULTS, DROPS = 300000, 20000
 RECORDED = 1.5  # seconds of a recording that is interrupted
 PAGES, FOLLOWED, RUNS, TRIES = 48, 45, 2, 8  # of snapshots.py
 EXAMPLES = ROOT / "linux/tests/programs"
-CHECKER = program.find("thpcheck", checker.BUILT) or str(ROOT / "linux/tests/plain_checker.py")
+PLAIN_CHECKER = str(ROOT / "linux/tests/plain_checker.py")
+CHECKER = program.find("thpcheck", checker.BUILT) or PLAIN_CHECKER
 PYTHON = "/usr/bin/python3"
 USER = "nobody"
 FOLDER = Path("/")  # of this run; set at its start
@@ -235,7 +236,7 @@ def files_that_cannot_be_written() -> Optional[str]:
     mounted = ["unshare", "--mount", "--propagation", "private", "sh", "-c", f'mount -t tmpfs -o size=300k none {small} && exec "$0" "$@"']
     rows: List[Tuple[List[str], List[str], str]] = [
         (mounted, ["--records", f"{small}/records"], "No space left on device"),
-        (["prlimit", "--fsize=20000"], [], "File too large"),
+        (["prlimit", "--fsize=20000"], ["--checker", PLAIN_CHECKER], "File too large"),  # the built one is copied, and is larger
         (["prlimit", "--fsize=2000000"], ["--seconds", "5"], "File too large"),
     ]
     for before, words, text in rows:

@@ -10,10 +10,10 @@ from typing import List, Optional, Sequence
 
 from ..common.program import Program
 from ..record.journal_builder import JournalBuilder
-from ..record.records import HEAD, QUEUE_MOST, SIZE, Kind, Record, pack_record, parse_record
+from ..record.records import HEAD, QUEUE_MOST, SIZE, Kind, Record, parse_record
 from ..record.scans import batches_of
 from ..record.tampering import Alteration, alter_journal
-from .recordings import linked, read_recording, record_from_json
+from .recordings import linked, pack_record, read_recording, record_from_json
 
 HERE = Path(__file__).resolve().parent
 PLAIN = str(HERE / "plain_program.py")
