@@ -406,6 +406,7 @@ static void end(struct run *run) {
         printf("column %" PRIu64 " %" PRIu64 "\n", i + 1 < run->columns.count ? run->columns.width : run->columns.in_last,
                run->columns.most[i]);
     demand(thp_node_destroy(&run->node));
+    run->policy = NULL;
 }
 
 /* Reads an event's line. */
@@ -434,15 +435,13 @@ int main(int argc, char **argv) {
     if (argc != 5 && argc != 6) return 2;
     struct policy policy = {.threshold = argv[1], .when = argv[2], .amount = strtod(argv[3], NULL), .take = argv[4]};
     FILE *times = argc == 6 ? fdopen(atoi(argv[5]), "r") : NULL;
-    bool is_begun = false;
     if (argc == 6 && !times) fail(1, "there are no times");
     while (fgets(text, sizeof text, stdin)) {
         line_number++;
         if (!strncmp(text, "node ", 5) || !strncmp(text, "end", 3)) {
-            if (is_begun) end(&run);
-            is_begun = *text == 'n';
-            if (is_begun) begin(&run, &policy, text);
-        } else if (is_begun) {
+            if (run.policy) end(&run);
+            if (*text == 'n') begin(&run, &policy, text);
+        } else if (run.policy) {
             struct event event = event_of(text);
             pass_time(&run, time_of(&run, times));
             follow(&run, &event);
