@@ -18,7 +18,7 @@ complete -c thpwhatif -n "__fish_seen_subcommand_from $looks what-if" -l memory 
 complete -c thpwhatif -n '__fish_seen_subcommand_from verify' -l user -x -a '(__fish_complete_users)' -d 'Who runs the command'
 complete -c thpwhatif -n "__fish_seen_subcommand_from $looks" -l orders -d 'Huge pages below PMD size, too'
 complete -c thpwhatif -n "__fish_seen_subcommand_from $looks" -l queued -x -a 'seen all' -d 'As if each page were in its queue'
-complete -c thpwhatif -n "__fish_seen_subcommand_from $looks verify" -l no-kernel -d 'Do without BPF'
+complete -c thpwhatif -n "__fish_seen_subcommand_from $looks verify" -l no-kernel -d 'Guess queues and pins'
 complete -c thpwhatif -n '__fish_seen_subcommand_from now what-if watch verify' -l thresholds -x -d 'off and numbers from 0 to 511'
 complete -c thpwhatif -n '__fish_seen_subcommand_from now what-if target watch policies' -l json -d 'JSON instead of tables'
 complete -c thpwhatif -n '__fish_seen_subcommand_from watch' -l prometheus -r -F -d 'Metrics for node_exporter'

@@ -315,6 +315,7 @@ class Guardian:
 
     def __init__(self, folder: str) -> None:
         self._undo = f"{folder}/{UNDO}"
+        self._former = read_entries(self._undo)[0]  # what an earlier run left and couldn't be put back yet
         self._entries: list[Entry] = []
         self._kept: dict[int, int] = {}  # pidfds by the tool's numbers
 
@@ -346,14 +347,14 @@ class Guardian:
             os.mkdir(path, 0o755)
         except OSError:
             self._entries.pop()
-            replace_entries(self._undo, self._entries)
+            replace_entries(self._undo, self._former + self._entries)
             raise
         self._add({"group": path, "inode": os.stat(path).st_ino})
 
     def end(self) -> list[str]:
         """Puts everything back, and returns what could not be put back."""
         problems, left = put_back(self._entries, list(self._kept.values()))
-        replace_entries(self._undo, left)
+        replace_entries(self._undo, self._former + left)
         return problems
 
 

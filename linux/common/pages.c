@@ -414,8 +414,8 @@ static void serve(const struct room *room) {
     }
 }
 
-/* Starts a worker, which ends with the thread that called, and holds four descriptors: `ends` becomes our end of its socket
- * and its pidfd. Returns 0, or -errno. No lock of the C library is taken in it, whatever other threads do meanwhile. */
+/* Starts a worker, which ends with the thread that called, and holds four descriptors: `ends` becomes our end of its socket,
+ * its pidfd and its number. Returns 0, or -errno. No lock of the C library is taken in it, whatever other threads do. */
 int start_worker(struct room *room, int flags_file, int *ends) {
     sigset_t all, before;
     int sockets[2], parent = getpid();
@@ -435,6 +435,7 @@ int start_worker(struct room *room, int flags_file, int *ends) {
     pthread_sigmask(SIG_SETMASK, &before, NULL);
     close(sockets[1]);
     ends[0] = sockets[0];
+    ends[2] = (int)child;
     if (child < 0) close(sockets[0]);
     return child < 0 ? (int)-error : 0;
 }

@@ -18,12 +18,14 @@ from contextlib import suppress
 from functools import lru_cache
 from typing import Deque, Iterator, NamedTuple
 
+from .files import read_bytes
 from .helpers import helper
 from .kernel_library import TABLES
 from .kernel_memory import Tables
 from .proc import ROOT
 
-SECONDS = 2.0  # that an answer may take
+SECONDS = 2.0  # that a worker may wait
+WORKED, PATIENCE = 0.01, 5  # part of that time in which it ran, if it doesn't wait, and how often it then may go on
 LEAST = 0.1  # seconds, for a user who made the tool wait often
 SLOW = 0.1  # seconds after which a reading counts as waiting: another worker then goes on beside it
 MOST_WORKERS = TABLES
@@ -92,13 +94,15 @@ class Worker:
         self._room = Room(self._size + 16 * MOST_SPANS)
         at = self._room.address
         words = struct.pack("<QQQqqiiQQqq", at, at + self._size, known.address, most, MOST_SPANS, *tables, place)
-        ends = (ctypes.c_int * 2)()
+        ends = (ctypes.c_int * 3)()
         error = load_library().start_worker(words, flags, ends)
         if error:
             raise OSError(-error, os.strerror(-error))
-        self.socket, self._handle = ends
+        self.socket, self._handle, self._number = ends
         self.request, self.place = Request(0, WALK), place
-        self.wake = self.until = 0.0  # from when on it counts as waiting, and when it is killed
+        self.wake = self.until = self.last = 0.0  # from when on it counts as waiting, when it is killed if it does, when in any case
+        self.limit = 0.0  # seconds
+        self._ran: float | None = None  # seconds, when it began to count as waiting
         self.is_suspect = False  # another process of this user made the tool wait
 
     def begin(self, request: Request, with_small: bool, most: int) -> None:
@@ -106,9 +110,28 @@ class Worker:
         place = (self._most - request.entries) * PIECE.size if request.what == WALK else 0
         self._room.memory[place : place + len(request.data)] = request.data
         words = (request.what, request.thread, request.process, with_small, min(most, self._most), request.entries)
-        self.request = request
+        self.request, self.until = request, time.monotonic() + self.limit
+        self.last, self._ran = self.until + PATIENCE * self.limit, None
         with suppress(OSError):  # it was killed: `end` then finds no answer
             os.write(self.socket, REQUEST.pack(*words))
+
+    def _run_time(self) -> float:
+        """Returns for how many seconds it has run; 0 where the kernel doesn't count that (SCHED_INFO)."""
+        try:
+            return int(read_bytes(f"/proc/{self._number}/schedstat").split()[0]) / 1e9
+        except (OSError, ValueError):
+            return 0.0
+
+    def watch(self, now: float) -> None:
+        """Notes for how long it has run, once it counts as waiting."""
+        if self._ran is None and now >= self.wake:
+            self._ran = self._run_time()
+
+    def has_worked(self, now: float) -> bool:
+        """Returns whether it worked instead of waiting, and may go on: a large process, or a busy machine."""
+        before, self._ran = self._ran, self._run_time()
+        self.until = min(now + self.limit, self.last)
+        return before is not None and self._ran - before > self.limit * WORKED and now < self.until
 
     def end(self) -> Answer | None:
         """Returns the answer; None where the worker was killed."""
@@ -158,12 +181,13 @@ class Workers:
             while todo and self._begin(todo[0]):
                 todo.popleft()
             now = time.monotonic()
-            wake = min(each.wake if todo and each.wake > now else each.until for each in self._busy.values())
+            wake = min(each.wake if each.wake > now else each.until for each in self._busy.values())
             ready = [number for number, _ in self._poll.poll(max(0.0, wake - now) * 1000 + 1)]
             now = time.monotonic()
-            for worker in self._busy.values() if now > wake + SLOW else ():
-                worker.until += now - wake  # the machine didn't let the tool run, and workers neither
-            late = [each for number, each in self._busy.items() if each.until < now and number not in ready]
+            for worker in self._busy.values():
+                worker.watch(now)
+            waiting = [each for number, each in self._busy.items() if each.until < now and number not in ready]
+            late = [each for each in waiting if not each.has_worked(now)]
             for worker in late + [self._busy[number] for number in ready]:
                 request, answer = worker.request, None if worker in late else worker.end()
                 self._busy.pop(worker.socket)
@@ -193,7 +217,7 @@ class Workers:
             self._poll.register(self._idle[0].socket, select.POLLIN)
         worker, waited = self._idle.pop(), self._waited[owner_of(request.process)] if self._waited else 0
         worker.is_suspect, worker.wake = waited > 0, now + SLOW
-        worker.until = now + max(LEAST, request.seconds / 2 ** (waited // MOST_WORKERS))
+        worker.limit = max(LEAST, request.seconds / 2 ** (waited // MOST_WORKERS))
         worker.begin(request, self._with_small, self.most)
         self._busy[worker.socket] = worker
         return True

@@ -218,7 +218,7 @@ def check_descriptors(pages: Pages) -> str | None:
     with pages.run("plain", 16, SECONDS) as number:
         for count in (8, 10, 12, 13, 14, 15, 16, 18, 20, 24, 32):
             call = Call(["now", "--pid", str(number), "--json"], ["prlimit", f"--nofile={count}:{count}"])
-            if call.status in (FAILED, SKIPPED) and call.problems.count("\n") == 1 and not call.out:
+            if not call.wrong(FAILED, SKIPPED) and "Too many open files" in call.problems and not call.out:
                 continue
             if call.wrong(DONE) or call.json()["rows"][0]["pages"] < 8 or call.json()["of_these_changed"]:
                 return f"{count} descriptors: " + (call.wrong(DONE) or call.out[-300:])

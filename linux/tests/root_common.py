@@ -11,6 +11,7 @@ and counted neither way.
 from __future__ import annotations
 
 import os
+import re
 import resource
 import signal
 import subprocess
@@ -127,10 +128,10 @@ def kill_all(tool: subprocess.Popen[str]) -> None:
 
 
 def settings() -> list[str]:
-    """Returns the settings that SETTER changes, and the groups that it leaves, once no tool runs."""
+    """Returns the settings that SETTER changes, and the groups that tools leave, once no tool runs."""
     with Keeper("test", wait=True):
         pass
-    left = [path for folder, _, _ in hierarchies() for path, _, _ in os.walk(folder) if "thpsetter" in path]
+    left = [path for folder, _, _ in hierarchies() for path, _, _ in os.walk(folder) if re.search("thp(setter|whatif)-", path)]
     return [read(PTES_NONE), read(SWITCH), *sorted(left)]
 
 
@@ -301,15 +302,15 @@ def group_of_another_is_spared() -> str | None:
 
 
 @contextmanager
-def verifying(command: str, *options: str) -> Iterator[subprocess.Popen[str]]:
-    """Runs `thpwhatif verify` with a shell's command, as nobody."""
-    words = [WHATIF, "verify", "--wait", "--thresholds", "100", "--user", "nobody", *options]
-    tool = subprocess.Popen([*words, "--", "/bin/sh", "-c", command], stdout=subprocess.PIPE, stderr=subprocess.PIPE, text=True)
+def verifying(command: str, after: int) -> Iterator[subprocess.Popen[bytes]]:
+    """Runs `thpwhatif verify` with a shell's command, as nobody, which runs for so many seconds before the look."""
+    words = [WHATIF, "verify", "--wait", "--thresholds", "100", "--user", "nobody", "--after", str(after), "--", "/bin/sh", "-c", command]
+    tool = subprocess.Popen(words, stdout=subprocess.DEVNULL, stderr=subprocess.DEVNULL)
     try:
         yield tool
     finally:
         tool.terminate()
-        tool.communicate()
+        tool.wait()
         settings()
 
 
@@ -320,9 +321,9 @@ def settings_come_first() -> str | None:
         pages = Pages(folder)
         with pages.hold_locks(1, NOBODY) as holder:
             command = f"exec dd bs=4096 skip=100 count=1 if=/proc/{holder}/root{folder}/mount/file"
-            with verifying(command, "--after", "1") as tool:
+            with verifying(command, 1) as tool:
                 if not until(lambda: read(PTES_NONE) != before[0] or tool.poll() is not None, 60) or tool.poll() is not None:
-                    return f"nothing was set: {tool.communicate()}"
+                    return f"nothing was set: status {tool.poll()}"
                 began = time.monotonic()
                 if not until(lambda: read(PTES_NONE) == before[0], 30):
                     return "the settings stay"
@@ -338,9 +339,9 @@ def reused_number_is_spared() -> str | None:
     with tempfile.TemporaryDirectory() as folder:
         os.chmod(folder, 0o777)
         told = f"{folder}/number"
-        with verifying(f"echo $$ > {told}.part; mv {told}.part {told}; setsid sleep 60 & exit 0", "--after", "3") as tool:
+        with verifying(f"echo $$ > {told}.part; mv {told}.part {told}; setsid sleep 60 & exit 0", 3) as tool:
             if not until(lambda: os.path.exists(told) or tool.poll() is not None, 30) or not os.path.exists(told):
-                return f"the command didn't run: {tool.communicate()}"
+                return f"the command didn't run: status {tool.poll()}"
             number = int(read(told))
             until(lambda: not os.path.exists(f"/proc/{number}"), 20)
             for _ in range(200):

@@ -29,6 +29,7 @@ from linux.common.errors import DIFFERS, DONE, FAILED, SKIPPED, USAGE  # noqa: E
 from linux.common.files import THP, read  # noqa: E402
 from linux.common.groups import find_hierarchy  # noqa: E402
 from linux.common.helpers import helper  # noqa: E402
+from linux.common.keeper import Keeper  # noqa: E402
 from linux.tests.cases import Cases, Missing  # noqa: E402
 
 MOST_RESIDENT = 64 << 10  # KiB
@@ -376,12 +377,18 @@ def settings() -> List[str]:
     return out + recorded_groups()
 
 
+def settings_at_rest() -> List[str]:
+    """The same while no other tool runs."""
+    with Keeper("root_record", wait=True):
+        return settings()
+
+
 def main() -> int:
     """Runs all cases."""
     if os.geteuid() != 0:
         print("root_record: skipped: not root", file=sys.stderr)
         return SKIPPED
-    cases, before, files = Cases("root_record", SECONDS), settings(), sorted(os.listdir("/var/tmp"))
+    cases, before, files = Cases("root_record", SECONDS), settings_at_rest(), sorted(os.listdir("/var/tmp"))
     each: List[Callable[[], Optional[str]]] = [
         no_such_command, bad_numbers, outputs_refused, outputs_are_the_callers, one_that_cannot_be_run,
         status_of_the_command, groups_of_its_own_are_removed, tasks_that_change_their_group,
@@ -394,8 +401,8 @@ def main() -> int:
         cases.run(case.__name__.replace("_", " "), case)
     for sent in (signal.SIGINT, signal.SIGTERM):
         cases.run(f"ended by {sent.name}", lambda: interrupted(sent))
-    cases.run("nothing is left", lambda: None if (settings(), sorted(os.listdir("/var/tmp"))) == (before, files) else
-              f"{set(settings()) ^ set(before)} {set(os.listdir('/var/tmp')) ^ set(files)}")
+    cases.run("nothing is left", lambda: None if (settings_at_rest(), sorted(os.listdir("/var/tmp"))) == (before, files) else
+              f"{set(settings_at_rest()) ^ set(before)} {set(os.listdir('/var/tmp')) ^ set(files)}")
     return cases.end()
 
 

@@ -228,6 +228,17 @@ class KeeperTest(unittest.TestCase):
             child.kill()
             child.wait()
 
+    def test_what_could_not_be_put_back_is_tried_again_by_each_later_tool(self) -> None:
+        os.mkdir(self.run_folder, 0o700)
+        (self.folder / "group").mkdir()
+        (self.folder / "group" / "file").write_text("")  # it can't be removed yet
+        add_entry(f"{self.run_folder}/undo", {"group": str(self.folder / "group")})
+        for _ in range(2):
+            Keeper("test", folder=self.run_folder).close()
+        (self.folder / "group" / "file").unlink()
+        Keeper("test", folder=self.run_folder).close()
+        self.assertFalse((self.folder / "group").exists())
+
     def test_what_is_no_entry_is_named(self) -> None:
         path = self.folder / "undo"
         path.write_text('{"file": "a"}\n{"fi\n[]\n')

@@ -118,8 +118,21 @@ class Waiting(unittest.TestCase):
         self.workers.close()
         self.assertEqual(children(), [])
 
+    def test_a_worker_that_works_may_go_on_for_a_while(self) -> None:
+        self.answered(1)
+        worker = self.workers._idle[0]
+        worker.limit, worker.wake = 2.0, 0.0
+        worker.begin(Request(1 << 30, WALK), False, 1)
+        begun = worker.until
+        for ran, now, may_go_on in ((1.0, 0.1, None), (1.1, 2.1, True), (1.11, 4.2, False), (1.5, 6.0, True), (9.0, 13.0, False)):
+            with mock.patch.object(worker, "_run_time", return_value=ran):
+                worker.watch(begun - 2 + now)
+                if may_go_on is not None:
+                    self.assertEqual(worker.has_worked(begun - 2 + now), may_go_on, now)
+
     def test_workers_end_with_the_tool(self) -> None:
-        code = "import os,time; from linux.common.reader import Reader; r=Reader(threads=2); r.read_processes([os.getpid()]);" \
+        code = "import os,time; from linux.common.kernel_memory import KernelMemory; from linux.common.reader import Reader;" \
+               "r=Reader(KernelMemory(), threads=2); r.read_processes([os.getpid()]);" \
                "print(*open(f'/proc/self/task/{os.getpid()}/children').read().split(), flush=True); time.sleep(60)"
         tool = subprocess.Popen([sys.executable, "-c", code], stdout=subprocess.PIPE, text=True)
         assert tool.stdout

@@ -82,7 +82,7 @@ def check_shared() -> bool:
     moved = {name: count - then[name] for name, count in counters().items()}
     is_same = look_at(start) == before
     print(f"16 shared pages: {'the same' if is_same else 'CHANGED'}; counters {moved}", flush=True)
-    os.kill(child, signal.SIGKILL)
+    signal.pidfd_send_signal(os.pidfd_open(child), signal.SIGKILL)
     os.waitpid(child, 0)
     del memory
     return is_same
