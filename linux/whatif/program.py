@@ -31,18 +31,10 @@ class Output(NewFile):
         super().__init__(path)
         self._path = path
 
-    def write(self, text: str) -> None:
+    def write(self, text: str, flush: bool = False) -> None:
         """Writes a text. InputFault where that isn't possible."""
         try:
-            self.file.write(text)
-        except OSError as error:
-            raise InputFault(f"{escape(self._path)} can't be written: {error.strerror}") from error
-
-    def has_text(self) -> bool:
-        """Returns whether the file, which is written whole then, has any text. InputFault where it can't be written."""
-        try:
-            self.file.flush()
-            return os.fstat(self.file.fileno()).st_size > 0
+            print(text, end="", file=self.file, flush=flush)
         except OSError as error:
             raise InputFault(f"{escape(self._path)} can't be written: {error.strerror}") from error
 
@@ -59,7 +51,8 @@ def open_output(path: str | None) -> Iterator[Output | None]:
         with signals_wait():
             out = Output(path)
         yield out
-        is_done = out.has_text()
+        out.write("", flush=True)
+        is_done = os.fstat(out.file.fileno()).st_size > 0
     finally:
         if out and not is_done:
             out.remove()
@@ -150,8 +143,9 @@ def command_snapshot(options: argparse.Namespace) -> int:
         snapshot = taker(options).take(choice)
         for line in list_notes(snapshot) + [last_line(snapshot.left_out)]:
             print(line, file=sys.stderr)
+        write: Callable[[str], object] = out.write if out else sys.stdout.write
         for part in json_parts(snapshot):
-            (out.write if out else sys.stdout.write)(part)
+            write(part)
     return Report([snapshot]).status
 
 

@@ -238,12 +238,10 @@ def result_of(
 ) -> Result:
     """Returns what a trial found, given the frames that came back by page, the pages that were moved, and what was added to the
     kernel's counters."""
-    predictor, plain = Predictor(snapshot), {}
+    predictor, tried = Predictor(snapshot), snapshot.locked_are_tried
     folios, predicted = {folio.frame: folio for folio in predictor.folios}, predictor.frames_given(threshold)
-    for frame, folio in folios.items():
-        back = given_back(folio, threshold, snapshot.locked_are_tried)
-        if back is not None:
-            plain[frame] = sum(1 << i for i, is_back in enumerate(back) if is_back)
+    readings = {frame: given_back(folio, threshold, tried) for frame, folio in folios.items()}
+    plain = {frame: given for frame, given in readings.items() if given is not None}
     own = {frame: given for frame, given in returned.items() if frame in folios}
     unscripted = {frame: given for frame, given in returned.items() if frame not in folios}
     differing = [frame for frame in folios if predicted.get(frame) != own.get(frame)]
