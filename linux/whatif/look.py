@@ -61,26 +61,20 @@ class ProcessChoice:
         return out
 
 
-@dataclass(frozen=True)
-class LookOptions:
-    """How a look is taken."""
-
-    with_small: bool = False  # huge pages below PMD size too
-    with_kernel: bool = True  # queues, flags and pins by BPF
-    all_queued: bool = False  # as if each page of PMD size were still in its queue
-    memory: int = MEMORY  # MiB that the look keeps at most
-
-
 class SnapshotTaker:
-    """Takes snapshots; the kernel's types are read once for all of them."""
+    """Takes snapshots; the kernel's types are read once for all of them. `with_small`: huge pages below PMD size too; `with_kernel`:
+    queues, flags and pins by BPF; `all_queued`: as if each page of PMD size were still in its queue; `memory`: MiB that a look keeps
+    at most."""
 
-    def __init__(self, how: LookOptions, progress: Progress | None = None) -> None:
-        self.how = how
-        self._progress = progress or (lambda what, done, of: None)
+    def __init__(
+        self, with_small: bool = False, with_kernel: bool = True, all_queued: bool = False, memory: int = MEMORY,
+        progress: Progress | None = None,
+    ) -> None:
+        self._with_small, self._all_queued, self._memory, self._progress = with_small, all_queued, memory, progress
         self._kernel = KernelMemory()
         self._queues: Queues | None = None
         self.lacking = "not asked for"
-        if how.with_kernel:
+        if with_kernel:
             try:
                 self._queues, self.lacking = Queues(self._kernel), ""
             except Unavailable as error:
@@ -90,7 +84,7 @@ class SnapshotTaker:
         """Looks once. What can't be read is counted; a process that ends meanwhile isn't."""
         began = time.monotonic()
         choice.check()
-        reader = Reader(self._kernel, self.how.with_small, progress=self._progress, memory=self.how.memory)
+        reader = Reader(self._kernel, self._with_small, progress=self._progress, memory=self._memory)
         try:
             reader.read_processes(choice.find(reader.unread))
             if reader.denied and missing_capabilities("CAP_SYS_PTRACE"):
@@ -138,7 +132,7 @@ class SnapshotTaker:
             reader.unread[HIDDEN] += folio.known != folio.full
         for folio in [*folios, *(first for first, _ in changes.pairs if first)]:
             folio.place = places.get(folio.frame)
-            if self.how.all_queued and folio.order == PMD_ORDER:
+            if self._all_queued and folio.order == PMD_ORDER:
                 folio.is_queued = True
         page, large = BASE << PMD_ORDER, [folio.known_pmd_mappings for folio in folios if folio.order == PMD_ORDER]
         by_parts = large.count(0)

@@ -156,19 +156,12 @@ static void do_tries(struct run *run, uint32_t caller) {
     run->sums.back += stats_of(run).frames_given - before;
 }
 
-/* Does the tries of a caller's open batch once the journal has had them all. */
-static void do_all_tries(struct run *run, uint32_t caller) {
-    const struct batch *batch = &run->batches[caller];
-    if (batch->is_open && batch->wanted >= batch->count) do_tries(run, caller);
-}
-
-/* A try that the journal has. */
+/* A try that the journal has of an open batch. */
 static void try_page(struct run *run, uint32_t caller, uint64_t page) {
     struct batch *batch = &run->batches[caller];
     bool has_turn = batch->tried == batch->wanted && batch->tried < batch->count && batch->pages[batch->tried] == page;
     batch->wanted++;
-    if (has_turn) do_tries(run, caller);
-    else do_all_tries(run, caller);
+    if (has_turn || batch->wanted >= batch->count) do_tries(run, caller);
 }
 
 /* Removes a page that was freed from a caller's batch. */
@@ -178,7 +171,7 @@ static void leave_batch(struct run *run, uint32_t caller, uint64_t page) {
         if (batch->pages[i] == page) {
             batch->count--;
             memmove(&batch->pages[i], &batch->pages[i + 1], (batch->count - i) * sizeof *batch->pages);
-            do_all_tries(run, caller);
+            if (batch->wanted >= batch->count) do_tries(run, caller);
         }
 }
 

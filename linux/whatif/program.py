@@ -14,7 +14,7 @@ from ..common.errors import DIFFERS, DONE, InputFault, Unavailable, signals_wait
 from ..common.files import NewFile
 from ..common.text import escape
 from ..common.tool import run_tool
-from .look import LookOptions, ProcessChoice, SnapshotTaker
+from .look import ProcessChoice, SnapshotTaker
 from .options import parser
 from .predictor import Predictor, load_library
 from .report import FRAMES_A_MEBIBYTE, Report, cost_table, group_table, last_line, process_table, report_of, row_json, shares_json, table
@@ -83,8 +83,8 @@ def taker(options: argparse.Namespace) -> SnapshotTaker:
         if time.monotonic() - began > SLOW:
             print(f"\r{what}: {done} of {of}\033[K", end="\n" if done == of else "", file=sys.stderr, flush=True)
 
-    how = LookOptions(options.orders, options.with_kernel, options.queued == "all", memory=options.memory)
-    return SnapshotTaker(how, show if sys.stderr.isatty() and options.command != "watch" else None)
+    progress = show if sys.stderr.isatty() and options.command != "watch" else None
+    return SnapshotTaker(options.orders, options.with_kernel, options.queued == "all", options.memory, progress)
 
 
 def take_snapshots(options: argparse.Namespace, choice: ProcessChoice | None) -> list[Snapshot]:
@@ -143,9 +143,11 @@ def command_snapshot(options: argparse.Namespace) -> int:
         snapshot = taker(options).take(choice)
         for line in list_notes(snapshot) + [last_line(snapshot.left_out)]:
             print(line, file=sys.stderr)
-        write: Callable[[str], object] = out.write if out else sys.stdout.write
         for part in json_parts(snapshot):
-            write(part)
+            if out:
+                out.write(part)
+            else:
+                print(part, end="")
     return Report([snapshot]).status
 
 

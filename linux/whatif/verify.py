@@ -44,7 +44,7 @@ from .page_plan import Reason
 from .predictor import Predictor
 from .rows import OFF, label
 from .reference import given_back
-from .look import LookOptions, ProcessChoice, SnapshotTaker
+from .look import ProcessChoice, SnapshotTaker
 from .snapshot import NAME, Snapshot
 from .stored import to_json
 
@@ -133,7 +133,7 @@ class Bench:
         for path, value in settings(task).items():
             keeper.set(path, value)
         self._frames = Frames()
-        self.taker = SnapshotTaker(LookOptions(with_small=True, with_kernel=task.with_kernel))
+        self.taker = SnapshotTaker(with_small=True, with_kernel=task.with_kernel)
         self._made = 0
 
     def trial(self, threshold: int, chance: random.Random) -> Result:
