@@ -402,12 +402,24 @@ static void end(struct run *run) {
     run->policy = NULL;
 }
 
+/* Reads a number and the space after it; 0 where there is none. */
+static uint64_t number_at(const char **text) {
+    uint64_t number = 0;
+    for (; **text >= '0' && **text <= '9'; ++*text) number = 10 * number + (uint64_t)(**text - '0');
+    if (**text == ' ') ++*text;
+    return number;
+}
+
 /* Reads an event's line. */
 static struct event event_of(const char *text) {
-    struct event event = {0};
-    int fields = sscanf(text, "%" SCNu32 " %15s %" SCNu64 " %" SCNu32 " %" SCNu32, &event.caller, event.word, &event.page,
-                        &event.first, &event.count);
-    if (fields < 2 || event.caller >= THP_MAX_CALLERS) fail(1, "no event");
+    struct event event = {.caller = (uint32_t)number_at(&text)};
+    size_t length = strcspn(text, " \n");
+    if (length == 0 || length >= sizeof event.word || event.caller >= THP_MAX_CALLERS) fail(1, "no event");
+    memcpy(event.word, text, length);
+    text += length + (text[length] == ' ');
+    event.page = number_at(&text);
+    event.first = (uint32_t)number_at(&text);
+    event.count = (uint32_t)number_at(&text);
     return event;
 }
 
