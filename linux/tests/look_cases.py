@@ -15,7 +15,7 @@ from typing import Callable, Iterator
 from ..common.errors import DONE, FAILED, INCONCLUSIVE, SKIPPED
 from ..common.files import BASE
 from ..common.groups import find_hierarchy
-from ..whatif.look import LookOptions, ProcessChoice, SnapshotTaker, names_of_groups
+from ..whatif.look import ProcessChoice, SnapshotTaker, names_of_groups
 from ..whatif.snapshot import Snapshot
 from .whatif_calls import SECONDS, USER, Call, Pages
 
@@ -47,7 +47,7 @@ os.execv(sys.argv[4], sys.argv[4:])
 def look(*processes: int, groups: list[str] | None = None, everything: bool = False, with_kernel: bool = True) -> Snapshot:
     """Looks once."""
     choice = ProcessChoice(list(processes), groups or [], everything)
-    return SnapshotTaker(LookOptions(with_kernel=with_kernel)).take(choice)
+    return SnapshotTaker(with_kernel=with_kernel).take(choice)
 
 
 @contextmanager
@@ -174,7 +174,7 @@ def check_churn(pages: Pages) -> str | None:
             child = subprocess.Popen(["/usr/bin/python3", "-c", CHURN, f"{group}/{place}"], user=USER, group=USER, extra_groups=[])
             stack.callback(child.wait)
             stack.callback(child.kill)
-        taker, until, looks = SnapshotTaker(LookOptions()), time.monotonic() + CHURN_TIME, 0
+        taker, until, looks = SnapshotTaker(), time.monotonic() + CHURN_TIME, 0
         while time.monotonic() < until:
             seen = taker.take(ProcessChoice([number], [group]))
             looks += 1

@@ -11,8 +11,8 @@ from ..common.files import PMD_ORDER
 from ..common.subpages import bits_of, runs
 
 # numbers of zero-filled subpages, round the thresholds
-EDGES = (0, 1, 2, 15, 16, 17, 31, 32, 33, 63, 64, 65, 127, 128, 129, 200, 255, 256, 257, 300, 408, 409, 410, 450)
-FULL = (499, 500, 501, 509, 510, 511, 512)
+EDGES = (0, 1, 2, 15, 16, 17, 31, 32, 33, 63, 64, 65, 127, 128, 129, 200, 255, 256, 257, 300, 408, 409, 410, 450,
+         499, 500, 501, 509, 510, 511, 512)
 
 
 def send(known: subprocess.Popen[str], lines: Sequence[str]) -> None:
@@ -49,7 +49,7 @@ def change_pages(known: subprocess.Popen[str], count: int, micros: int, seed: in
 def page_lines(chance: random.Random, page: int, order: int) -> list[str]:
     """Returns the lines that make a page: its content, and what befalls it by chance."""
     size = 1 << order
-    zero = chance.choice(EDGES + FULL) if order == PMD_ORDER else chance.randrange(size + 1)
+    zero = chance.choice(EDGES) if order == PMD_ORDER else chance.randrange(size + 1)
     lines = [f"alloc {order}"] + fills(chance, page, size, zero)
     kinds: list[tuple[float, Callable[[], list[str]]]] = [
         (0.15, lambda: [f"splitpmd {page}"]),

@@ -63,32 +63,27 @@ class ProcessChoice:
         return out
 
 
-@dataclass(frozen=True)
-class LookOptions:
-    """How a look is taken."""
-
-    with_small: bool = False  # huge pages below PMD size too
-    with_kernel: bool = True  # queues, flags and pins by BPF
-    all_queued: bool = False  # as if each page of PMD size were still in its queue
-    memory: int = MEMORY  # MiB that the look keeps at most
-
-
 class SnapshotTaker:
-    """Takes snapshots; the kernel's types are read once for all of them."""
+    """Takes snapshots; the kernel's types are read once for all of them. `with_small`: huge pages below PMD size too; `with_kernel`:
+    queues, flags and pins by BPF; `all_queued`: as if each page of PMD size were still in its queue; `memory`: MiB that a look keeps
+    at most."""
 
-    def __init__(self, how: LookOptions, progress: Progress | None = None) -> None:
-        self.how = how
+    def __init__(
+        self, with_small: bool = False, with_kernel: bool = True, all_queued: bool = False, memory: int = MEMORY,
+        progress: Progress | None = None,
+    ) -> None:
+        self._with_small, self._all_queued, self._memory = with_small, all_queued, memory
         self._progress = progress or (lambda what, done, of: None)
         self._kernel = KernelMemory()
         self._groups: dict[int, int] = {}  # addresses of control groups by their inodes, of pages that were looked at
-        self.lacking = why_not(lambda: self._kernel.page_states([])) if how.with_kernel else "not asked for"
+        self.lacking = why_not(lambda: self._kernel.page_states([])) if with_kernel else "not asked for"
         self._is_ordered = not self.lacking and not why_not(self._kernel.locate_queues)  # else a page has that it is in a queue
 
     def take(self, choice: ProcessChoice) -> Snapshot:
         """Looks once. What can't be read is counted; a process that ends meanwhile isn't."""
         began = time.monotonic()
         choice.check()
-        reader = Reader(self._kernel, self.how.with_small, progress=self._progress, memory=self.how.memory, look=self._look)
+        reader = Reader(self._kernel, self._with_small, progress=self._progress, memory=self._memory, look=self._look)
         try:
             reader.read_processes(choice.find(reader.unread))
             if reader.denied and missing_capabilities("CAP_SYS_PTRACE"):
@@ -103,7 +98,7 @@ class SnapshotTaker:
             reader.close()
         for folio in [*reader.folios.values(), *(before for before, _ in changes.pairs if before)]:
             folio.place = places.get(folio.frame)
-            if self.how.all_queued and folio.order == PMD_ORDER:
+            if self._all_queued and folio.order == PMD_ORDER:
                 folio.is_queued = True
         snapshot = self._gather(reader, changes)
         snapshot.chosen, snapshot.sums.machine = choice.describe(), machine

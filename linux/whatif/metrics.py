@@ -5,7 +5,7 @@ from __future__ import annotations
 import os
 import stat
 from contextlib import contextmanager, suppress
-from typing import Callable, Iterator, Union
+from typing import Callable, Iterator
 
 from ..common.errors import InputFault
 from ..common.files import BASE, open_roots_folder, replace_file
@@ -15,7 +15,7 @@ from .rows import Row, label
 
 PREFIX = "thpwhatif"
 MARK = f"# HELP {PREFIX}_".encode()  # how each text begins
-Values = list[tuple[str, Union[int, float]]]  # of a metric, by their labels
+Values = list[tuple[str, float]]  # of a metric, by their labels
 
 
 def metrics_text(report: Report) -> str:

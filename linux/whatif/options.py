@@ -30,9 +30,8 @@ def add_choice(words: argparse.ArgumentParser) -> None:
 
 def add_no_kernel(words: argparse.ArgumentParser) -> None:
     """Adds the option that does without the kernel's queues and structures of pages."""
-    words.add_argument(
-        "--no-kernel", dest="with_kernel", action="store_false", help="guess queues and pins instead of reading them"
-    )
+    about = "guess queues and pins instead of reading them"
+    words.add_argument("--no-kernel", dest="with_kernel", action="store_false", help=about)
 
 
 def add_memory(words: argparse.ArgumentParser) -> None:

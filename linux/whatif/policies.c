@@ -156,19 +156,12 @@ static void do_tries(struct run *run, uint32_t caller) {
     run->sums.back += stats_of(run).frames_given - before;
 }
 
-/* Does the tries of a caller's open batch once the journal has had them all. */
-static void do_all_tries(struct run *run, uint32_t caller) {
-    const struct batch *batch = &run->batches[caller];
-    if (batch->is_open && batch->wanted >= batch->count) do_tries(run, caller);
-}
-
-/* A try that the journal has. */
+/* A try that the journal has of an open batch. */
 static void try_page(struct run *run, uint32_t caller, uint64_t page) {
     struct batch *batch = &run->batches[caller];
     bool has_turn = batch->tried == batch->wanted && batch->tried < batch->count && batch->pages[batch->tried] == page;
     batch->wanted++;
-    if (has_turn) do_tries(run, caller);
-    else do_all_tries(run, caller);
+    if (has_turn || batch->wanted >= batch->count) do_tries(run, caller);
 }
 
 /* Removes a page that was freed from a caller's batch. */
@@ -178,7 +171,7 @@ static void leave_batch(struct run *run, uint32_t caller, uint64_t page) {
         if (batch->pages[i] == page) {
             batch->count--;
             memmove(&batch->pages[i], &batch->pages[i + 1], (batch->count - i) * sizeof *batch->pages);
-            do_all_tries(run, caller);
+            if (batch->wanted >= batch->count) do_tries(run, caller);
         }
 }
 
@@ -406,14 +399,27 @@ static void end(struct run *run) {
         printf("column %" PRIu64 " %" PRIu64 "\n", i + 1 < run->columns.count ? run->columns.width : run->columns.in_last,
                run->columns.most[i]);
     demand(thp_node_destroy(&run->node));
+    run->policy = NULL;
+}
+
+/* Reads a number and the space after it; 0 where there is none. */
+static uint64_t number_at(const char **text) {
+    uint64_t number = 0;
+    for (; **text >= '0' && **text <= '9'; ++*text) number = 10 * number + (uint64_t)(**text - '0');
+    if (**text == ' ') ++*text;
+    return number;
 }
 
 /* Reads an event's line. */
 static struct event event_of(const char *text) {
-    struct event event = {0};
-    int fields = sscanf(text, "%" SCNu32 " %15s %" SCNu64 " %" SCNu32 " %" SCNu32, &event.caller, event.word, &event.page,
-                        &event.first, &event.count);
-    if (fields < 2 || event.caller >= THP_MAX_CALLERS) fail(1, "no event");
+    struct event event = {.caller = (uint32_t)number_at(&text)};
+    size_t length = strcspn(text, " \n");
+    if (length == 0 || length >= sizeof event.word || event.caller >= THP_MAX_CALLERS) fail(1, "no event");
+    memcpy(event.word, text, length);
+    text += length + (text[length] == ' ');
+    event.page = number_at(&text);
+    event.first = (uint32_t)number_at(&text);
+    event.count = (uint32_t)number_at(&text);
     return event;
 }
 
@@ -434,15 +440,13 @@ int main(int argc, char **argv) {
     if (argc != 5 && argc != 6) return 2;
     struct policy policy = {.threshold = argv[1], .when = argv[2], .amount = strtod(argv[3], NULL), .take = argv[4]};
     FILE *times = argc == 6 ? fdopen(atoi(argv[5]), "r") : NULL;
-    bool is_begun = false;
     if (argc == 6 && !times) fail(1, "there are no times");
     while (fgets(text, sizeof text, stdin)) {
         line_number++;
         if (!strncmp(text, "node ", 5) || !strncmp(text, "end", 3)) {
-            if (is_begun) end(&run);
-            is_begun = *text == 'n';
-            if (is_begun) begin(&run, &policy, text);
-        } else if (is_begun) {
+            if (run.policy) end(&run);
+            if (*text == 'n') begin(&run, &policy, text);
+        } else if (run.policy) {
             struct event event = event_of(text);
             pass_time(&run, time_of(&run, times));
             follow(&run, &event);

@@ -175,11 +175,6 @@ class Recording:
         return any(line.split(b" ", 2)[1:2] in ([b"write"], [b"zero"]) for line in self.journal)
 
 
-def reopened(file: IO[bytes]) -> IO[bytes]:
-    """Opens a file again, at its start: two runs at a time don't share a place in it."""
-    return open(f"/proc/self/fd/{file.fileno()}", "rb")
-
-
 def read_recording(path: str, times: str | None, by: JournalChecker) -> Recording:
     """Opens a journal, and checks it. InputFault where it is no journal, RunFailed where it isn't legal."""
     journal = open_again(path)
@@ -201,7 +196,8 @@ def try_policy(program: str, policy: Policy, recordings: Sequence[Recording]) ->
     outcome = Outcome(policy)
     for recording in recordings:
         with ExitStack() as stack:
-            journal, *times = [stack.enter_context(reopened(file)) for file in (recording.journal, recording.times) if file]
+            paths = [f"/proc/self/fd/{file.fileno()}" for file in (recording.journal, recording.times) if file]
+            journal, *times = [stack.enter_context(open(path, "rb")) for path in paths]  # each run has a place of its own in them
             numbers = [file.fileno() for file in times]
             child = start(program, [*policy.words(), *map(str, numbers)], journal, subprocess.PIPE, subprocess.PIPE, numbers)
             stack.callback(child.wait)

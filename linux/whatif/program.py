@@ -14,7 +14,7 @@ from ..common.errors import DIFFERS, DONE, InputFault, Unavailable, signals_wait
 from ..common.files import NewFile
 from ..common.text import escape
 from ..common.tool import run_tool
-from .look import LookOptions, ProcessChoice, SnapshotTaker
+from .look import ProcessChoice, SnapshotTaker
 from .options import parser
 from .predictor import Predictor, load_library
 from .report import FRAMES_A_MEBIBYTE, Report, cost_table, group_table, last_line, process_table, report_of, row_json, shares_json, table
@@ -31,18 +31,10 @@ class Output(NewFile):
         super().__init__(path)
         self._path = path
 
-    def write(self, text: str) -> None:
+    def write(self, text: str, flush: bool = False) -> None:
         """Writes a text. InputFault where that isn't possible."""
         try:
-            self.file.write(text)
-        except OSError as error:
-            raise InputFault(f"{escape(self._path)} can't be written: {error.strerror}") from error
-
-    def has_text(self) -> bool:
-        """Returns whether the file, which is written whole then, has any text. InputFault where it can't be written."""
-        try:
-            self.file.flush()
-            return os.fstat(self.file.fileno()).st_size > 0
+            print(text, end="", file=self.file, flush=flush)
         except OSError as error:
             raise InputFault(f"{escape(self._path)} can't be written: {error.strerror}") from error
 
@@ -59,7 +51,8 @@ def open_output(path: str | None) -> Iterator[Output | None]:
         with signals_wait():
             out = Output(path)
         yield out
-        is_done = out.has_text()
+        out.write("", flush=True)
+        is_done = os.fstat(out.file.fileno()).st_size > 0
     finally:
         if out and not is_done:
             out.remove()
@@ -90,8 +83,8 @@ def taker(options: argparse.Namespace) -> SnapshotTaker:
         if time.monotonic() - began > SLOW:
             print(f"\r{what}: {done} of {of}\033[K", end="\n" if done == of else "", file=sys.stderr, flush=True)
 
-    how = LookOptions(options.orders, options.with_kernel, options.queued == "all", memory=options.memory)
-    return SnapshotTaker(how, show if sys.stderr.isatty() and options.command != "watch" else None)
+    progress = show if sys.stderr.isatty() and options.command != "watch" else None
+    return SnapshotTaker(options.orders, options.with_kernel, options.queued == "all", options.memory, progress)
 
 
 def take_snapshots(options: argparse.Namespace, choice: ProcessChoice | None) -> list[Snapshot]:
@@ -151,7 +144,10 @@ def command_snapshot(options: argparse.Namespace) -> int:
         for line in list_notes(snapshot) + [last_line(snapshot.left_out)]:
             print(line, file=sys.stderr)
         for part in json_parts(snapshot):
-            (out.write if out else sys.stdout.write)(part)
+            if out:
+                out.write(part)
+            else:
+                print(part, end="")
     return Report([snapshot]).status
 
 

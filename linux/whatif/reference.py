@@ -10,8 +10,8 @@ from __future__ import annotations
 from ..common.folios import Folio
 
 
-def given_back(folio: Folio, max_ptes_none: int, locked_are_tried: bool = False) -> list[bool] | None:
-    """Returns for each subpage whether its frame comes back; None where the page isn't split. `locked_are_tried`: as
+def given_back(folio: Folio, max_ptes_none: int, locked_are_tried: bool = False) -> int | None:
+    """Returns the set of subpages whose frames come back; None where the page isn't split. `locked_are_tried`: as
     before Linux 6.18."""
     size = 2**folio.order
     is_zero = [bool(folio.zero >> i & folio.known >> i & 1) for i in range(size)]
@@ -26,4 +26,4 @@ def given_back(folio: Folio, max_ptes_none: int, locked_are_tried: bool = False)
             return None
     if folio.pins:
         return None
-    return [not is_mapped[i] or (is_zero[i] and not is_kept[i]) for i in range(size)]
+    return sum(1 << i for i in range(size) if not is_mapped[i] or (is_zero[i] and not is_kept[i]))

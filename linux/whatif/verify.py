@@ -44,7 +44,7 @@ from .page_plan import Reason
 from .predictor import Predictor
 from .rows import OFF, label
 from .reference import given_back
-from .look import LookOptions, ProcessChoice, SnapshotTaker
+from .look import ProcessChoice, SnapshotTaker
 from .snapshot import NAME, Snapshot
 from .stored import to_json
 
@@ -133,7 +133,7 @@ class Bench:
         for path, value in settings(task).items():
             keeper.set(path, value)
         self._frames = Frames()
-        self.taker = SnapshotTaker(LookOptions(with_small=True, with_kernel=task.with_kernel))
+        self.taker = SnapshotTaker(with_small=True, with_kernel=task.with_kernel)
         self._made = 0
 
     def trial(self, threshold: int, chance: random.Random) -> Result:
@@ -237,12 +237,10 @@ def result_of(
 ) -> Result:
     """Returns what a trial found, given the frames that came back by page, the pages that were moved, and what was added to the
     kernel's counters."""
-    predictor, plain = Predictor(snapshot), {}
+    predictor, tried = Predictor(snapshot), snapshot.locked_are_tried
     folios, predicted = {folio.frame: folio for folio in predictor.folios}, predictor.frames_given(threshold)
-    for frame, folio in folios.items():
-        back = given_back(folio, threshold, snapshot.locked_are_tried)
-        if back is not None:
-            plain[frame] = sum(1 << i for i, is_back in enumerate(back) if is_back)
+    readings = {frame: given_back(folio, threshold, tried) for frame, folio in folios.items()}
+    plain = {frame: given for frame, given in readings.items() if given is not None}
     own = {frame: given for frame, given in returned.items() if frame in folios}
     unscripted = {frame: given for frame, given in returned.items() if frame not in folios}
     differing = [frame for frame in folios if predicted.get(frame) != own.get(frame)]

@@ -39,12 +39,8 @@ def look(folios: list[Folio], kernel: str = "") -> Snapshot:
 
 def plain(folios: list[Folio], threshold: int, locked_are_tried: bool = False) -> dict[int, int]:
     """Returns the frames that come back, by page, by the plain reading of the kernel."""
-    out = {}
-    for one in folios:
-        back = given_back(one, threshold, locked_are_tried)
-        if back is not None:
-            out[one.frame] = sum(1 << i for i, is_back in enumerate(back) if is_back)
-    return out
+    back = {one.frame: given_back(one, threshold, locked_are_tried) for one in folios}
+    return {frame: given for frame, given in back.items() if given is not None}
 
 
 def made_up(count: int, seed: int) -> list[Folio]:
