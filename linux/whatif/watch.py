@@ -55,13 +55,7 @@ def line_of(rows: Sequence[Row]) -> str:
     return f"{pages} pages; MiB back: " + ", ".join(f"{label(row.threshold)} {row.mebibytes:.1f}" for row in rows)
 
 
-def watch(
-    look: Callable[[], Report],
-    seconds: float,
-    rounds: int,
-    out: TextIO = sys.stdout,
-    as_json: bool = False,
-) -> None:
+def watch(look: Callable[[], Report], seconds: float, rounds: int, out: TextIO = sys.stdout, as_json: bool = False) -> None:
     """Looks every so many seconds, `rounds` times (0: until it is interrupted). On a terminal a table is drawn over;
     otherwise each look is a line, and the table is printed at the end. `as_json`: each look is a JSON object on a line,
     and nothing else is printed."""
