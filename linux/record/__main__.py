@@ -117,10 +117,7 @@ class Run:
         count = sum(track.store.count for track in recording.tracks)
         is_legal, verdict, why = journal.check(events, self._by)
         complete = f"incomplete: {', '.join(recording.gaps)}; " if recording.gaps else ""
-        print(f"{complete}{verdict}, {count} records, {followed} of {pages} pages followed")
-        for line in why:
-            print(f"    {line}")
-        sys.stdout.flush()
+        print(f"{complete}{verdict}, {count} records, {followed} of {pages} pages followed", *why, sep="\n    ", flush=True)
         for builder in builders:
             self.sums.update(builder.tallies)
         self.sums.update({"recordings": 1, "recordings that are legal": is_legal, "events in journals": events, "pages": pages})

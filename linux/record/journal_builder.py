@@ -55,8 +55,8 @@ class JournalBuilder(ScanEvents):
 
     def _begin(self, kind: Kind, record: Record, space: int, *values: int) -> None:
         """Begins what counts as a call of a record's task: a copy or a collapse."""
-        call = Record(kind, record.time, record.task, space, (*values, *[0] * (9 - len(values))), None)
-        self.pending[record.task, kind] = call
+        values += (0,) * (9 - len(values))
+        self.pending[record.task, kind] = Record(kind, record.time, record.task, space, values, None)
 
     def handle_enter(self, record: Record) -> None:
         """A system call runs from here on."""

@@ -173,9 +173,8 @@ class Recorder:
         threshold = int(read(PTES_NONE)) if os.path.exists(SWITCH) and read(SWITCH).strip() == "1" else None
         folder = os.path.dirname(os.path.abspath(options.records)) if options.records else FOLDER
         room = 1 << (RING // (len(self._paths) * len(nodes))).bit_length() - 1
-        looks = None
-        if options.contents is not None:
-            looks = ContentLooks(self._memory, self._paths, options.order, options.contents)
+        every = options.contents
+        looks = ContentLooks(self._memory, self._paths, options.order, every) if every is not None else None
         tracks: list[Track] = []
         try:
             for path in self._paths:

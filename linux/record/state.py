@@ -9,7 +9,7 @@ from dataclasses import dataclass, field
 from typing import Iterator
 
 from ..common.files import BASE, PMD_ORDER
-from ..common.journal import FILLING, Event, journal_text
+from ..common.journal import FILLING, Event
 from ..common.subpages import bits_of, size
 from .lines import JournalLine, JournalLines
 from .records import Kind, Record
@@ -168,10 +168,6 @@ class State:
     def pages(self) -> int:
         """How many pages were mapped."""
         return len(self._omitted) - self.never_mapped
-
-    def text(self) -> str:
-        """Returns the journal of this node alone."""
-        return journal_text([self])
 
     def texts(self) -> Iterator[str]:
         """Returns the journal's lines, without the pages that are left out."""

@@ -143,12 +143,9 @@ static void by_break(struct range range)
 
 static struct range a_range(unsigned *chance)
 {
-    struct range range;
-    range.first = (size_t)BASE * (rand_r(chance) % (1 << order));
-    range.length = (size_t)BASE * (1 + rand_r(chance) % (1 << order));
-    if (range.length > size - range.first)
-        range.length = size - range.first;
-    return range;
+    size_t first = (size_t)BASE * (rand_r(chance) % (1 << order)), rest = size - first;
+    size_t length = (size_t)BASE * (1 + rand_r(chance) % (1 << order));
+    return (struct range){ first, length < rest ? length : rest };
 }
 
 /* pages side by side, of each of which a part goes, and then all by one call */

@@ -14,7 +14,7 @@ from unittest import mock
 from ..common import checker as checkers, program as programs
 from ..common.checker import Checker, find_checker
 from ..common.errors import InputFault, Unavailable
-from ..common.journal import journal_of
+from ..common.journal import journal_of, journal_text
 from ..common.program import Program
 from ..common.text import text_lines
 from ..record.journal_builder import JournalBuilder
@@ -31,7 +31,7 @@ def journal_of_one_thread() -> str:
     """The journal of a stored recording, which is legal."""
     builder = JournalBuilder(9, None, True)
     builder.add_records(linked(read_recording("one_thread")))
-    return builder.text()
+    return journal_text([builder])
 
 
 def altered_copy() -> Tuple[str, int]:

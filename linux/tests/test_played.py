@@ -5,6 +5,7 @@ from __future__ import annotations
 import unittest
 from typing import List, Sequence
 
+from ..common.journal import journal_text
 from ..record.journal_builder import JournalBuilder
 from ..record.records import Kind, Record
 from .played_kernel import PlayedKernel
@@ -19,14 +20,14 @@ def build_journal(records: List[Record], threshold: "int | None" = None) -> Jour
     """Builds the journal of records; it is legal, and its queues equal the kernel's."""
     builder = JournalBuilder(9, threshold, True)
     builder.add_records(linked(records))
-    assert verdict(builder.text()) == "legal", builder.text()
+    assert verdict(journal_text([builder])) == "legal", journal_text([builder])
     assert not builder.tallies["queues that differ"], builder.tallies
     return builder
 
 
 def event_words(builder: JournalBuilder) -> List[str]:
     """The events without their callers."""
-    return [line.split(" ", 1)[1] for line in builder.text().split("\n")[2:-2]]
+    return [line.split(" ", 1)[1] for line in journal_text([builder]).split("\n")[2:-2]]
 
 
 class ThreadsBuilder(RecordBuilder):

@@ -8,6 +8,7 @@ import unittest
 from pathlib import Path
 from typing import List, Optional, Sequence
 
+from ..common.journal import journal_text
 from ..common.program import Program
 from ..record.journal_builder import JournalBuilder
 from ..record.records import HEAD, QUEUE_MOST, SIZE, Kind, Record, parse_record
@@ -58,7 +59,7 @@ class RecordBuilder:
         builder = JournalBuilder(9, None, straighten)
         builder.add_records(linked(self.records))
         self.tallies = builder.tallies
-        return builder.text()
+        return journal_text([builder])
 
 
 def folio_of(number: int) -> int:
@@ -221,7 +222,7 @@ class RecordsTest(unittest.TestCase):
 
 class StoredTest(unittest.TestCase):
     def stored(self, name: str, straighten: bool) -> str:
-        return self.build_journal(name, straighten).text()
+        return journal_text([self.build_journal(name, straighten)])
 
     def build_journal(self, name: str, straighten: bool) -> JournalBuilder:
         builder = JournalBuilder(9, None, straighten)
@@ -234,14 +235,14 @@ class StoredTest(unittest.TestCase):
         seen = [builder.tallies[f"map counts {what}"] for what in ("compared", "that differ")]
         self.assertEqual((builder.tallies["pages made by collapses"], *seen), (12, 76, 0))
         self.assertEqual((builder.pages, builder.left_out), (61, 1))
-        self.assertEqual(verdict(builder.text()), "legal")
+        self.assertEqual(verdict(journal_text([builder])), "legal")
 
     def test_two_threads_that_move_and_replace_areas(self) -> None:
         builder = self.build_journal("areas", True)
         seen = [builder.tallies[f"map counts {what}"] for what in ("compared", "that differ")]
         self.assertEqual((builder.tallies["pages whose mapping moved"], *seen), (11, 64, 0))
         self.assertEqual((builder.pages, builder.left_out), (53, 0))
-        self.assertEqual(verdict(builder.text()), "legal")
+        self.assertEqual(verdict(journal_text([builder])), "legal")
 
     def test_a_recording_is_legal_once_straightened(self) -> None:
         self.assertEqual(verdict(self.stored("one_thread", True)), "legal")
@@ -278,17 +279,17 @@ class ScanTest(unittest.TestCase):
         builder.add_records(linked(records.records))
         self.assertEqual(builder.tallies["queues that differ"], 0)
         self.assertEqual(builder.tallies["pages that joined while a scan ran, moved after it"], 1)
-        event_words = [line.split(" ", 1)[1] for line in builder.text().split("\n")[2:-2]]
+        event_words = [line.split(" ", 1)[1] for line in journal_text([builder]).split("\n")[2:-2]]
         self.assertLess(event_words.index("back 0"), event_words.index("alloc 1"))
-        self.assertEqual(verdict(builder.text()), "legal")
+        self.assertEqual(verdict(journal_text([builder])), "legal")
 
     def build_journal(self, records: RecordBuilder, threshold: Optional[int], seen: str) -> List[str]:
         """Returns the words of the journal, which is legal; `seen` was counted once."""
         builder = JournalBuilder(9, threshold, True)
         builder.add_records(linked(records.records))
-        self.assertEqual(verdict(builder.text()), "legal")
+        self.assertEqual(verdict(journal_text([builder])), "legal")
         self.assertEqual((builder.tallies[seen], builder.tallies["queues that differ"]), (1, 0))
-        return [line.split(" ", 1)[1] for line in builder.text().split("\n")[2:-2]]
+        return [line.split(" ", 1)[1] for line in journal_text([builder]).split("\n")[2:-2]]
 
     def by_another(self, records: RecordBuilder, kind: Kind, values: Sequence[int], queue: List[int]) -> None:
         """A record of the task that scans."""

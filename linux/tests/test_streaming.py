@@ -11,6 +11,7 @@ from typing import List, Tuple
 from unittest import mock
 
 from ..record import lines
+from ..common.journal import journal_text
 from ..record.journal_builder import JournalBuilder
 from ..record.outputs import JournalFile
 from ..record.records import IN_FAULT, Kind
@@ -44,7 +45,7 @@ print(store.count, count, builder.left_out, resident() - before)
 
 def outcome(builder: JournalBuilder) -> Tuple[str, List[Tuple[str, int]], int, int]:
     """All that a builder has found."""
-    return builder.text(), sorted(builder.tallies.items()), builder.pages, builder.left_out
+    return journal_text([builder]), sorted(builder.tallies.items()), builder.pages, builder.left_out
 
 
 class StoreTest(unittest.TestCase):
@@ -57,7 +58,7 @@ class StoreTest(unittest.TestCase):
                 first.add_records(linked(read_recording(name)))
                 second.add_records(store.records())
                 self.assertEqual(outcome(first), outcome(second), (name, settings))
-                self.assertEqual(first.events, first.text().count("\n") - 3)
+                self.assertEqual(first.events, journal_text([first]).count("\n") - 3)
             store.close()
 
     def test_a_process_that_begins_again_where_one_has_ended(self) -> None:
@@ -107,15 +108,15 @@ class LinesTest(unittest.TestCase):
             builder = JournalBuilder(9, None, True)
             builder.add_records(linked(records.records))
         self.assertGreater(builder.tallies[f"pages left out: {TOO_OLD}"], 0)
-        self.assertEqual((verdict(builder.text()), builder.tallies["queues that differ"]), ("legal", 0))
+        self.assertEqual((verdict(journal_text([builder])), builder.tallies["queues that differ"]), ("legal", 0))
         builder.lines.close()
 
     def test_a_journal_as_a_file(self) -> None:
         builder = self.build_in_window("one_thread", 40)
         journal = JournalFile([builder])
-        self.assertEqual(b"".join(journal.pieces()).decode(), builder.text())
-        self.assertEqual([journal.line(3), journal.line(10 ** 9)], [builder.text().split("\n")[2], ""])
-        self.assertEqual(journal.size, len(builder.text()))
+        self.assertEqual(b"".join(journal.pieces()).decode(), journal_text([builder]))
+        self.assertEqual([journal.line(3), journal.line(10 ** 9)], [journal_text([builder]).split("\n")[2], ""])
+        self.assertEqual(journal.size, len(journal_text([builder])))
         journal.close()
         builder.lines.close()
 
