@@ -9,7 +9,7 @@ from __future__ import annotations
 import ctypes
 import mmap
 import os
-from typing import NamedTuple, Sequence
+from typing import Sequence
 
 from .errors import Unavailable
 from .files import BASE, read
@@ -24,16 +24,6 @@ REASONS = {
     4: "control groups have no queues of their own (cgroup.memory=nokmem)",
     5: "kernel memory can't be read",
 }
-
-
-class Tables(NamedTuple):
-    """What reads page tables: struct tables of pages.c, without its place."""
-
-    find: int
-    copy: int
-    copies: int
-    map: int
-    levels: int
 
 
 class KernelMemory:
@@ -142,11 +132,11 @@ class KernelMemory:
         self._run("look_at_pages", found=len(frames))
         return states[: len(frames)]
 
-    def tables(self) -> Tables:
-        """Returns what reads page tables."""
+    def tables(self) -> tuple[int, ...]:
+        """Returns what reads page tables: struct tables of pages.c, without its place."""
         self._find_own_page()
         window = ctypes.addressof(self._window.tables)
-        return Tables(self.program("find_tables"), self.program("copy_table"), window, self._map, self._levels)
+        return self.program("find_tables"), self.program("copy_table"), window, self._map, self._levels
 
     def content_of(self, frame: int) -> int:
         """Returns where the content of a frame is in the kernel's map of all memory."""

@@ -21,7 +21,6 @@ from typing import Deque, Iterator, NamedTuple
 from .files import read_bytes
 from .helpers import helper
 from .kernel_library import TABLES
-from .kernel_memory import Tables
 from .proc import ROOT
 
 SECONDS = 2.0  # that a worker may wait
@@ -84,7 +83,7 @@ class Answer(NamedTuple):
 class Worker:
     """One worker process. OSError where none can be started."""
 
-    def __init__(self, flags: int, known: int, most: int, tables: Tables, place: int) -> None:
+    def __init__(self, flags: int, known: int, most: int, tables: tuple[int, ...], place: int) -> None:
         self._most, self._size = most, max(most * PIECE.size, LEAST_ROOM)
         self._memory, at = new_room(self._size + 16 * MOST_SPANS)
         words = struct.pack("<QQQqqiiQQqq", at, at + self._size, known, most, MOST_SPANS, *tables, place)
@@ -157,7 +156,7 @@ class Worker:
 class Workers:
     """Worker processes: `count` that read, and more beside those that wait. `most`: pieces of a process."""
 
-    def __init__(self, flags: int, tables: Tables, count: int, most: int, with_small: bool = False) -> None:
+    def __init__(self, flags: int, tables: tuple[int, ...], count: int, most: int, with_small: bool = False) -> None:
         self._flags, self._tables, self._count, self._with_small = flags, tables, count, with_small
         self._known, self._poll = new_room(KNOWN), select.poll()
         self._idle: list[Worker] = []
