@@ -8,7 +8,7 @@ import time
 from types import FrameType
 from typing import Callable, NoReturn, Optional
 
-SECONDS = 120  # that a case gets
+SECONDS = 400  # that a case gets, also while other tools take their turns
 
 
 class Missing(Exception):
