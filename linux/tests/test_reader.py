@@ -110,7 +110,9 @@ class Waiting(unittest.TestCase):
             signal.pidfd_send_signal(os.pidfd_open(process), signal.SIGKILL)
         self.answered(4)
         self.assertEqual(self.answered(3), {True: 3})
-        self.workers.close()
+        until = time.monotonic() + 30
+        while children() and time.monotonic() < until:
+            self.workers.close()
         self.assertEqual(children(), [])
 
     def test_a_worker_that_works_may_go_on_for_a_while(self) -> None:
