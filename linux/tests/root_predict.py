@@ -28,6 +28,7 @@ from linux.common import checker  # noqa: E402
 from linux.common.errors import SKIPPED, USAGE  # noqa: E402
 from linux.common.program import find  # noqa: E402
 from linux.tests.cases import Cases, Missing  # noqa: E402
+from linux.tests.ends import heed_interrupts  # noqa: E402
 
 WHATIF, RECORD = str(ROOT / "linux/whatif/thpwhatif"), str(ROOT / "linux/thprecord")
 PLAIN_CHECKER = str(ROOT / "linux/tests/plain_checker.py")
@@ -71,7 +72,9 @@ def folder_is_replaced(words: Sequence[str], sent: signal.Signals) -> str | None
         (other / "d").mkdir()
         os.chown(other / "d", USER, USER)
         filled = [word.replace("DIR", str(other / "d")) for word in words]
-        tool = subprocess.Popen(filled, stdin=subprocess.PIPE, stdout=subprocess.DEVNULL, stderr=subprocess.PIPE)
+        tool = subprocess.Popen(
+            filled, stdin=subprocess.PIPE, stdout=subprocess.DEVNULL, stderr=subprocess.PIPE, preexec_fn=heed_interrupts
+        )
         try:
             if not wait_until(lambda: (other / "d/new").exists() or tool.poll() is not None) or tool.poll() is not None:
                 message = tool.communicate()[1].decode("ascii", "replace")
