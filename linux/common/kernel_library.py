@@ -11,6 +11,7 @@ from functools import lru_cache
 from .errors import Unavailable
 from .helpers import helper
 from .proc import missing_capabilities
+from .text import text_lines
 
 ROOM = 1 << 16  # bytes of messages
 STATES, WINDOW, NAME, TABLES, ENTRIES = 1024, 1 << 16, 64, 32, 512  # linux/kernel/shared.h
@@ -87,7 +88,7 @@ def open_programs(name: str, *words: object) -> tuple[int, list[str]]:
     said = text.value.decode(errors="replace").strip()
     if not opened:
         raise Unavailable(explain(said, number))
-    return opened, said.splitlines()
+    return opened, text_lines(said)
 
 
 def explain(said: str, number: int) -> str:

@@ -16,7 +16,7 @@ from typing import Any
 
 from .errors import InputFault, Unavailable
 from .files import read
-from .text import escape
+from .text import escape, text_lines
 
 NOBODY = 65534  # of Debian's base-passwd: many programs run as this user, so no program of these tools does
 UNUSED = range(0x78000000, 0x7FFE0000)  # above SSSD's and shadow's numbers, below systemd's foreign ones
@@ -85,7 +85,7 @@ def user_without_rights() -> User:
     caller where this tool isn't root. Unavailable where there is no such number."""
     if os.geteuid() != 0:
         return User(os.geteuid(), os.getegid(), [], "", "/")
-    maps = [[map(int, line.split()) for line in read(f"/proc/self/{kind}_map").splitlines()] for kind in ("uid", "gid")]
+    maps = [[map(int, line.split()) for line in text_lines(read(f"/proc/self/{kind}_map"))] for kind in ("uid", "gid")]
     high = min(UNUSED.stop, *(max(first + count for first, _, count in each) for each in maps))
     low = max(high - len(UNUSED), high // 2)  # a user namespace may have few numbers
     used = _numbers_of_processes()

@@ -49,7 +49,7 @@ class Workload(NamedTuple):
 
 
 UNDERUSED = "--underused 100 "
-JAVA = ("java", "-XX:+UseTransparentHugePages", "-Xms16m", "-Xmx600m", str(RECORDER / "Heap.java"))
+JAVA = ("java", "-XX:+UseTransparentHugePages", "-Xms16m", "-Xmx600m", str(RECORDER / "Heap.java"), "1", "2", "10")
 COMPILER = ("g++", "-std=c++17", "-O2", "-c", "-o", "/dev/null", str(WHATIF / "heavy.cpp"))
 WORKLOADS: dict[str, Workload] = {
     "python3": Workload(UNDERUSED, (*LARGE, PYTHON, str(RECORDER / "strings.py"), "1", "40"), PYTHON),
