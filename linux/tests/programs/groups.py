@@ -16,7 +16,7 @@ import sys
 import time
 
 SIZE, BASE, PAGES = 1 << 21, 4096, 8
-READ_WRITE, ANONYMOUS, HUGE_PAGES, DONTNEED = 3, 0x22, 14, 4  # of mmap and madvise
+READ_WRITE, ANONYMOUS, HUGE_PAGES, NO_HUGE_PAGES, DONTNEED = 3, 0x22, 14, 15, 4  # of mmap and madvise
 WAIT = 0.2  # seconds, for scans
 libc = ctypes.CDLL(None, use_errno=True)
 libc.mmap.restype = ctypes.c_void_p
@@ -25,11 +25,12 @@ libc.madvise.argtypes = [ctypes.c_void_p, ctypes.c_size_t, ctypes.c_int]
 
 
 def make_pages() -> int:
-    """Returns where eight pages of PMD size are."""
+    """Returns where eight pages of PMD size are, which khugepaged doesn't make again once they are split."""
     room = libc.mmap(None, (PAGES + 1) * SIZE, READ_WRITE, ANONYMOUS, -1, 0)
     start = int((room + SIZE - 1) // SIZE * SIZE)
     libc.madvise(start, PAGES * SIZE, HUGE_PAGES)
     ctypes.memset(start, 90, PAGES * SIZE)
+    libc.madvise(start, PAGES * SIZE, NO_HUGE_PAGES)
     return start
 
 
