@@ -30,6 +30,7 @@ from linux.common.files import THP, read  # noqa: E402
 from linux.common.groups import find_hierarchy  # noqa: E402
 from linux.common.helpers import helper  # noqa: E402
 from linux.common.keeper import Keeper  # noqa: E402
+from linux.common.text import text_lines  # noqa: E402
 from linux.tests.cases import Cases, Missing  # noqa: E402
 
 MOST_RESIDENT = 64 << 10  # KiB
@@ -242,7 +243,7 @@ def files_that_cannot_be_written() -> Optional[str]:
     for before, words, text in rows:
         done = run([*words, *steps()], before=before)
         wrong = done.wrong(FAILED, text)
-        if wrong or len([line for line in done.problems.splitlines() if ": waiting until " not in line]) != 1:
+        if wrong or len([line for line in text_lines(done.problems) if ": waiting until " not in line]) != 1:
             return f"{before[:2]}: {wrong or done.problems!r}"
     return None
 
