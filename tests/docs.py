@@ -205,15 +205,6 @@ def wrong_clauses(functions: str, named: str, ensured: dict[str, set[str]]) -> I
     yield from (f"{named} of `{name}`" for name, own in found.items() if not own & (names | {"-"}))
 
 
-def private_definitions_exist() -> str | None:
-    """Each file of private definitions that docs/PROVED.md lists exists."""
-    text = section("docs/PROVED.md", "What is trusted")
-    pairs = [(part.partition("` ")[0], part) for part in re.split(r"(?:^- |; )`(?=thp_)", text, flags=re.M)[1:]]
-    named = [(crate, file) for crate, part in pairs for file in re.findall(r"`([A-Z]\w+)`", part)]
-    gone = [f"{crate}/{file}" for crate, file in named if not (ROOT / f"crates/{crate}/specs/{file}.antt").is_file()]
-    return listed(gone) if named else "lists none"
-
-
 def definitions_exist() -> str | None:
     """Each file of definitions that a document names as CRATE/FILE exists."""
     named = [pair for document in DOCUMENTS for pair in re.findall(r"`((?:thp|tests)_[a-z_]+)/([A-Z]\w+)`", text_of(document))]
@@ -306,13 +297,13 @@ PROVED_WITH = re.compile(r"^Proved with (.+) \((logic \w+)\)\.$", re.MULTILINE)
 """The toolchains that everything was proved with, and their logic."""
 
 
-BELIEVED = re.compile(r"^\| `(thp_\w+(?:::\w+)+)` \| (\d+) \| (\d+) \| (\d+) \|$", re.M)
-"""A row of the table of what a reader has to believe: the function, and its files, definitions and lines."""
+BELIEVED = re.compile(r"^\| (?:`(thp_\w+(?:::\w+)+)`|the (headline)) ((?:\| \d+ ){5})\|$", re.M)
+"""A row of the table of what a reader has to believe: the function, and its counts."""
 
 
 def believed_is_counted() -> str | None:
-    """docs/PROVED.md states for each function of `make believe` how much a reader has to believe."""
-    rows = {row[0]: tuple(int(it) for it in row[1:]) for row in BELIEVED.findall(text_of("docs/PROVED.md"))}
+    """docs/PROVED.md states for each contract of `make believe` how much a reader has to believe."""
+    rows = {row[0] or row[1]: tuple(int(it) for it in re.findall(r"\d+", row[2])) for row in BELIEVED.findall(text_of("docs/PROVED.md"))}
     wrong = [f"{it}: {counted}" for it in CLAIMED if (counted := believed(it)) != rows.get(it)]
     return "; ".join(wrong) or None
 
@@ -412,7 +403,6 @@ def main() -> None:
     tally.run("README.md shows the stored output of examples", dialogues_are_true)
     tally.run("docs/PROVED.md covers each crate", crates_are_covered)
     tally.run("docs/PROVED.md's functions have their clauses", clauses_exist)
-    tally.run("docs/PROVED.md's private definitions", private_definitions_exist)
     tally.run("docs/PROVED.md names the toolchain", toolchain_is_named)
     tally.run("docs/PROVED.md counts what has to be believed", believed_is_counted)
     tally.run("mutation tests apply", edits_apply)
