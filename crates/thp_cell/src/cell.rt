@@ -250,7 +250,8 @@ impl<R: Recorder> NodeCell<R> {
         }
     }
 
-    /// Returns the number of queued pages, by a single load without the lock, even while another pass has the node.
+    /// Returns the number of queued pages, by a single load without the lock, even while another pass has the node. A pass that
+    /// keeps the node reads the length there.
     pub fn count(&self, pass: &mut Pass<R>) -> u32
         requires { pass.old.cell ≡ self.now }
         ensures follows { Follows pass.old pass.new }
