@@ -57,7 +57,7 @@ impl Flights {
             if self.callers[block as usize] == caller {
                 return Some(block);
             }
-            block = self.links.next(block);
+            block = self.links.peek_next(block);
         }
         None
     }
@@ -76,7 +76,7 @@ impl Flights {
             if self.callers[block as usize] == caller {
                 blocks.push(block)?;
             }
-            block = self.links.next(block);
+            block = self.links.peek_next(block);
         }
         Ok(blocks)
     }

@@ -3,7 +3,7 @@ use Rattle.std.specs.Prelude.{◌≡◌, ℕ, Bool, true, false, not, ◌||◌, 
 use Rattle.thp_history.specs.declared.events.Event.{Event}
 use Rattle.thp_history.specs.declared.events.Outcome.{Outcome}
 use Rattle.thp_history.specs.declared.events.What.{What}
-use Rattle.thp_history.specs.declared.events.What.TheVariants.{Alloc, UnmapWhole, UnmapSub, Unpin, Taken, Split, Pinned, Used, Back, Dropped}
+use Rattle.thp_history.specs.declared.events.What.TheVariants.{Alloc, MapWhole, UnmapWhole, MapSub, UnmapSub, SplitPmd, Pin, Unpin, Write, Zero, Taken, Split, Pinned, Used, Back, Dropped, Close}
 use Rattle.thp_history.specs.declared.shape.Shape.{Shape}
 use Rattle.thp_history.specs.History.{History}
 use Rattle.thp_history.specs.Counts.{pins, is_closed, allocations}
@@ -41,7 +41,7 @@ pub record FitsSplit (s : Shape) (h k : History) (c p : ℕ) (set : List Bool) :
 abbrev pub is_dropped : Shape → History → ℕ → Bool
 is_dropped s h p = is_closed h || not (is_partly_mapped s h p)
 
--- the event of caller c fits the history h, and extends it to the history k: its call is not refused, and what it tells is right
+-- the event of caller c fits the history h, and extends it to the history k: its call is not refused, and what it records is right
 abbrev pub FitsBy : Shape → History → History → ℕ → What → Type 0
 FitsBy s h k c (Alloc p b) = FitsAlloc s h p b
 FitsBy s h k c (UnmapWhole o p set) = (refusal_of s h (UnmapWhole o p set) ≡ None) × Gives s h k p o set
@@ -53,7 +53,13 @@ FitsBy s h k c (Pinned p) = (has_page p (flight h c) ≡ true) × (0 < pins h p)
 FitsBy s h k c (Used p) = (has_page p (flight h c) ≡ true) × (is_worth_split s h p ≡ false)
 FitsBy s h k c (Back p) = (slice_get (flight h c) 0 ≡ Some p) × (is_closed h ≡ false) × (is_partly_mapped s h p ≡ true)
 FitsBy s h k c (Dropped p) = (slice_get (flight h c) 0 ≡ Some p) × (is_dropped s h p ≡ true)
-FitsBy s h k c w = refusal_of s h w ≡ None
+FitsBy s h k c (MapWhole p) = refusal_of s h (MapWhole p) ≡ None
+FitsBy s h k c (MapSub p first count) = refusal_of s h (MapSub p first count) ≡ None
+FitsBy s h k c (SplitPmd p) = refusal_of s h (SplitPmd p) ≡ None
+FitsBy s h k c (Pin p) = refusal_of s h (Pin p) ≡ None
+FitsBy s h k c (Write p first count) = refusal_of s h (Write p first count) ≡ None
+FitsBy s h k c (Zero p first count) = refusal_of s h (Zero p first count) ≡ None
+FitsBy s h k c Close = refusal_of s h Close ≡ None
 
 -- the event may follow the history
 abbrev pub Fits : Shape → History → Event → Type 0

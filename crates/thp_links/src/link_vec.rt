@@ -41,8 +41,8 @@ impl LinkVec {
         })
     }
 
-    /// Returns the index after this one, or `NIL`. This is no access: it only reads.
-    pub fn next(&self, index: u32) -> u32
+    /// Returns the index after this one, or `NIL`, without counting an access: for lists that belong to no node.
+    pub fn peek_next(&self, index: u32) -> u32
         requires { index < length self.now.pairs }
         ensures { IfSome (slice_get self.now.pairs index) (λ l. result ≡ l.next) }
     {

@@ -70,7 +70,7 @@ impl Arrivals {
         };
         for _place in 0..self.order.len() {
             blocks.push(block)?;
-            block = self.links.next(block);
+            block = self.links.peek_next(block);
         }
         Ok(blocks)
     }

@@ -11,12 +11,12 @@ index-requires c = omega (arith, c.self.invariant.sizes, place_inside c.self.ins
 pub returns-then-index-caller : goal.returns-then-index-caller
 returns-then-index-caller c = sym (found_there c.self.inside.callers.items c.self.inside.lists.items c.self.inside.links.pairs c.self.invariant c.args.self.now c.self.view_is c.args.caller c.index-list.result.now (read_list c.self.inside.lists.items c.list_of.result c.args.caller c.index-list.result.now c.index-list.result.now c.self.invariant.count c.list_of.ensures.inside c.list_of.ensures.value c.index-list.ensures) c.loop-place._place c.loop-place.block c.index.result.now c.loop-place.invariant.next c.loop-place.invariant.passed (omega arith) c.index.ensures c.if-index-caller.true)
 
-pub next-block-requires : goal.next-block-requires
-next-block-requires c = place_inside c.self.inside.callers.items c.self.inside.lists.items c.self.inside.links.pairs c.self.invariant c.args.self.now c.self.view_is c.args.caller c.index-list.result.now (read_list c.self.inside.lists.items c.list_of.result c.args.caller c.index-list.result.now c.index-list.result.now c.self.invariant.count c.list_of.ensures.inside c.list_of.ensures.value c.index-list.ensures) c.loop-place._place c.loop-place.block c.loop-place.invariant.next (omega arith)
+pub peek_next-block-requires : goal.peek_next-block-requires
+peek_next-block-requires c = place_inside c.self.inside.callers.items c.self.inside.lists.items c.self.inside.links.pairs c.self.invariant c.args.self.now c.self.view_is c.args.caller c.index-list.result.now (read_list c.self.inside.lists.items c.list_of.result c.args.caller c.index-list.result.now c.index-list.result.now c.self.invariant.count c.list_of.ensures.inside c.list_of.ensures.value c.index-list.ensures) c.loop-place._place c.loop-place.block c.loop-place.invariant.next (omega arith)
 
 pub loop-place-preserved : goal.loop-place-preserved
 loop-place-preserved c = record {
-  next = next_after c.self.inside.callers.items c.self.inside.lists.items c.self.inside.links.pairs c.self.invariant c.args.self.now c.self.view_is c.args.caller c.index-list.result.now (read_list c.self.inside.lists.items c.list_of.result c.args.caller c.index-list.result.now c.index-list.result.now c.self.invariant.count c.list_of.ensures.inside c.list_of.ensures.value c.index-list.ensures) c.loop-place._place c.loop-place.block c.next-block.result c.loop-place.invariant.next (omega arith) c.next-block.ensures;
+  next = next_after c.self.inside.callers.items c.self.inside.lists.items c.self.inside.links.pairs c.self.invariant c.args.self.now c.self.view_is c.args.caller c.index-list.result.now (read_list c.self.inside.lists.items c.list_of.result c.args.caller c.index-list.result.now c.index-list.result.now c.self.invariant.count c.list_of.ensures.inside c.list_of.ensures.value c.index-list.ensures) c.loop-place._place c.loop-place.block c.peek_next-block.result c.loop-place.invariant.next (omega arith) c.peek_next-block.ensures;
   passed = passed_on c.self.inside.callers.items c.self.inside.lists.items c.self.inside.links.pairs c.self.invariant c.args.self.now c.self.view_is c.args.caller c.index-list.result.now (read_list c.self.inside.lists.items c.list_of.result c.args.caller c.index-list.result.now c.index-list.result.now c.self.invariant.count c.list_of.ensures.inside c.list_of.ensures.value c.index-list.ensures) c.loop-place._place c.loop-place.block c.index.result.now c.loop-place.invariant.next c.loop-place.invariant.passed (omega arith) c.index.ensures c.if-index-caller.false;
 }
 
