@@ -37,6 +37,9 @@ MOST_WORDS = 25_000
 MOST_ROWS = 40
 """The most rows of the tables in docs/MAP.md."""
 
+MOST_KERNEL_LINES = {"Python": 10_000, "C": 2_500, "tests": 6_500}
+"""The most lines of `linux/`: Python and C outside tests, and both in tests."""
+
 DOCUMENTS = ["README.md", "CONTRIBUTING.md", *sorted(str(path.relative_to(ROOT)) for path in ROOT.glob("docs/*.md"))]
 
 KERNEL = {"docs/GLOSSARY.md", "docs/LINUX.md", "docs/WHATIF.md"}
@@ -95,6 +98,17 @@ def map_is_short() -> str | None:
     """docs/MAP.md is within its rows."""
     count = len(list(table_rows(text_of("docs/MAP.md"))))
     return None if count <= MOST_ROWS else f"{count} rows, and may have {MOST_ROWS}"
+
+
+def kernel_tools_are_small() -> str | None:
+    """The tools for the running kernel are within their lines."""
+    lines = dict.fromkeys(MOST_KERNEL_LINES, 0)
+    for path in (ROOT / "linux").rglob("*.*"):
+        parts = path.relative_to(ROOT).parts
+        if path.suffix in (".py", ".c", ".h") and "out" not in parts:
+            kind = "tests" if "tests" in parts else "Python" if path.suffix == ".py" else "C"
+            lines[kind] += len(path.read_text().splitlines())
+    return listed((f"{lines[kind]} of {kind}, and may have {most}" for kind, most in MOST_KERNEL_LINES.items() if lines[kind] > most), "lines:")
 
 
 def words_are_plain() -> str | None:
@@ -398,6 +412,7 @@ def main() -> None:
     tally.run("README.md is short", readme_is_short)
     tally.run("all documents are short", documents_are_short)
     tally.run("docs/MAP.md is short", map_is_short)
+    tally.run("linux/ is small", kernel_tools_are_small)
     tally.run("words are plain", words_are_plain)
     tally.run("docs/pictures/layers.py --check", layers_are_current)
     tally.run("README.md shows the stored output of examples", dialogues_are_true)
