@@ -540,7 +540,7 @@ BUILDS = (
 
 TESTS = (
     "tests/calls.c", "tests/checks.c", "tests/refused.c", "tests/interrupted.c", "tests/passes.c", "tests/busy.c", "tests/marks.c",
-    "demos/threads.c", "demos/cell.c",
+    "tests/sizes.c", "demos/threads.c", "demos/cell.c",
 )
 
 DEMOS = ("demos/first.c", "demos/journal.c")

@@ -260,6 +260,24 @@ def random_journal(chance: Random) -> bytes:
     return random_texts.joined(lines)
 
 
+def large_journals() -> Iterable[tuple[str, bytes]]:
+    """Journals with more stuck pages, waiting pages and nodes than random ones have, each with its name."""
+    for name, count, is_tried in (("70 stuck pages", 70, True), ("1,100 waiting pages", 1_100, False)):
+        node = Node(count, 2, None)
+        for page in range(count):
+            node.alloc(0)
+            node.split_pmd(0, page)
+            node.unmap_sub(0, page, 0, 1)
+        for page in range(count if is_tried else 0):
+            node.pin(0, page)
+            node.taken(1)
+            node.tried(1, page)
+            node.returned(1)
+        yield name, random_texts.joined(["thp-journal 2", f"node 0 blocks {count} order 2", *node.journal, "end"])
+    nodes = [line for number in range(7) for line in (f"node {number} blocks 1", "0 alloc 0")]
+    yield "eight nodes, the last empty", random_texts.joined(["thp-journal 1", *nodes, "node 7 blocks 1", "end"])
+
+
 @dataclass(frozen=True)
 class Case:
     """A random journal, by its number and a seed."""
@@ -290,9 +308,11 @@ def main() -> None:
     if not os.access(given.program, os.X_OK) or given.program.is_dir():
         sys.exit(f"{given.program} is no program")
     tally = Tally(is_brief=True)
-    with tempfile.TemporaryDirectory() as name, Pool() as pool:
-        path = Path(name) / "thpdraw"
+    with tempfile.TemporaryDirectory() as folder, Pool() as pool:
+        path = Path(folder) / "thpdraw"
         path.symlink_to(given.program.resolve())
+        for name, text in large_journals():
+            tally.report(name, run(path, Call(("--table",), text, Source.FILE)).differs_from(table(text)))
         cases = [Case(path, given.seed, place) for place in range(given.cases)]
         for case, told in zip(cases, pool.imap(wrong, cases)):
             tally.report(f"table {case.place} of seed {case.seed}", told)
