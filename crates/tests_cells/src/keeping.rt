@@ -155,3 +155,17 @@ const BUSY_THROUGH_CLOSE: &[(u32, Step)] = &[
 fn busy_through_close_and_scan(rt: HostRuntime) {
     expect_on_new_cell(&rt, rt.alloc(), BUSY_THROUGH_CLOSE);
 }
+
+const KEPT_AND_RETURNED: &[Step] = &[Step::Keep, Step::Queue(0), Step::Return];
+
+// A pass of two of three callers keeps the node and returns it; then that of the third keeps it.
+#[test]
+fn kept_by_two_of_three(rt: HostRuntime) {
+    let (cell, pass) = cell_of(&rt, rt.alloc(), 16, 3);
+    let (mut a, mut b) = cell.split(pass, 2);
+    expect_steps(&rt, &cell, &mut a, 1, KEPT_AND_RETURNED);
+    expect_steps(&rt, &cell, &mut b, 2, KEPT_AND_ALLOCATED);
+    let pass = cell.join(a, b);
+    // two allocations, a split mapping, an unmap
+    assert!(rt; event_count(cell.finish(pass)) == 4);
+}
