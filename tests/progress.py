@@ -71,7 +71,7 @@ class Shown:
 
 @dataclass(frozen=True)
 class Slow:
-    """A call whose input arrives in halves, with a pause between them, and that must be reported as legal."""
+    """A call whose input arrives in parts, with a pause before each but the first, and that must be reported as legal."""
 
     name: str
     words: tuple[str, ...]
@@ -79,6 +79,7 @@ class Slow:
     errors: bytes
     terminal: bool = True
     group: str = "progress"
+    pauses: tuple[float, ...] = (PAUSE, PAUSE)
 
     def wrong(self, program: Path) -> Optional[str]:
         """How the result differs from the expected one, in one line; or None."""
@@ -93,9 +94,9 @@ class Slow:
         child = subprocess.Popen([program, *self.words], stdin=given, stdout=subprocess.PIPE, stderr=writer)
         os.close(writer)
         try:
-            for half in others:
+            for half, pause in zip(others, self.pauses):
                 wait_for_none(given)
-                time.sleep(PAUSE)
+                time.sleep(pause)
                 os.write(giver, half)
             os.close(giver)
             output, _ = child.communicate(timeout=SECONDS)
@@ -107,6 +108,22 @@ class Slow:
         finally:
             os.close(given)
             os.close(reader)
+
+
+class Rated(Slow):
+    """Such a call whose last line has the rate of the whole input over the whole time."""
+
+    def wrong(self, program: Path) -> Optional[str]:
+        """How the result differs from the expected one, in one line; or None."""
+        began = time.monotonic()
+        ended = self.ended(program)
+        lasted, size = time.monotonic() - began, len(b"".join(self.halves)) / 2**20
+        wrong = differs(ended, 0, b"legal\n", self.errors)
+        if wrong:
+            return wrong
+        rate = float(re.findall(rb"([\d.]+) MiB/s", ended.errors)[-1])
+        least, most = size / lasted - 0.15, size / sum(self.pauses) + 0.15
+        return None if least <= rate <= most else f"{rate} MiB/s aren't from {least:.1f} to {most:.1f}"
 
 
 def terminal() -> tuple[int, int]:
@@ -159,5 +176,10 @@ def rows(legal: bytes, long: bytes, illegal: bytes, told: bytes) -> Iterator[Sho
     yield Slow("a terminal, and no second has passed", (), (legal,), lines())
     yield Slow("a terminal, and a second has passed", (), halves, lines(legal))
     yield Slow("a terminal, asked for", ASKED, halves, lines(half, legal))
+    quarters = tuple(legal[at : at + len(legal) // 4 + 1] for at in range(0, len(legal), len(legal) // 4 + 1))
+    two = lines(quarters[0], quarters[0] + quarters[1])
+    yield Slow("parts that come at once after a second", ASKED, quarters, two, pauses=(PAUSE, 0.0, 0.0))
+    paced = (b"thp-journal 1\nnode 0 blocks 1\n0 alloc 0\n", b"0 pin 0\n0 unpin 0 stays -\n" * 120_000, b"0 pin 0\nend\n")
+    yield Rated("the rate of 3 MiB", ASKED, paced, line(paced[0]) + rb".*" + lines(b"".join(paced)))
     yield Slow("no terminal", (), halves, lines(), terminal=False)
     yield Slow("no terminal, asked for", ASKED, halves, lines(half, legal), terminal=False)
