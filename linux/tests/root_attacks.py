@@ -199,8 +199,8 @@ class FileTests(AttackCase):
                 place_target(beside, kind)
                 for path in (beside, folder.parent / "target"):
                     path.write_text(secret)
-                for path in (script, beside):
-                    os.chown(path, NOBODY, NOBODY, follow_symlinks=False)
+                for path in (script, beside) if kind == "a file" else (script,):
+                    os.chown(path, NOBODY, NOBODY)
                 done = self.call([*REPLAY, str(script)], [USAGE], "settings of a script: " if kind == "a file" else "x.script.args ")
                 self.assertNotIn(secret[:8].encode(), done.stdout + done.stderr)
 
