@@ -35,7 +35,6 @@ HOLDER = "lock"  # names who has the lock
 SHARED = ("tracefs", "debugfs")  # file systems that a kernel has once, whose root folder only root opens
 FSOPEN, FSCONFIG, FSMOUNT = 430, 431, 432  # system calls, the same on all processors
 CREATE, CLOSE_ON_EXEC = 6, 1  # FSCONFIG_CMD_CREATE; FSOPEN_CLOEXEC, FSMOUNT_CLOEXEC
-KINDS = {"file": "settings", "group": "control groups"}  # of entries
 GUARDIAN = Path(__file__).with_name("guardian.py")
 ENDED = "the guardian has ended: nothing more may be changed"
 
@@ -114,22 +113,22 @@ def put_back_what_was_left(folder: str) -> list[str]:
     """Puts back what a run left that was killed with its guardian, and returns lines that report it. The lock is held."""
     if not os.path.exists(f"{folder}/{UNDO}"):
         return []
-    entries, problems = put_back_all(folder)
-    counts = {what: len({entry[key] for entry in entries if key in entry}) for key, what in KINDS.items()}
+    undo, problems = put_back_all(folder)
+    counts = {"settings": len(undo["settings"]), "control groups": len(undo["groups"])}
     found = ", ".join(f"{count} {what}" for what, count in counts.items() if count)
     return [f"put back what a killed run left: {found or 'nothing'}", *map(escape, problems)]
 
 
-def recover(name: str, folder: str = FOLDER) -> list[str]:
+def recover(name: str) -> list[str]:
     """Puts back the same with the lock, and returns these lines. Does nothing without root's rights, and while another tool runs."""
-    if os.geteuid() != 0 or not os.path.exists(f"{folder}/{UNDO}"):
+    if os.geteuid() != 0 or not os.path.exists(f"{FOLDER}/{UNDO}"):
         return []
     try:
-        lock = take_lock(folder, name, False)
+        lock = take_lock(FOLDER, name, False)
     except (Busy, Unavailable):
         return []
     try:
-        return put_back_what_was_left(folder)
+        return put_back_what_was_left(FOLDER)
     finally:
         os.close(lock)
 
@@ -153,19 +152,11 @@ class Keeper:
         self._guardian: subprocess.Popen[bytes] | None = None
         try:
             self._socket, theirs = socket.socketpair(socket.AF_UNIX, socket.SOCK_SEQPACKET)
-            own = os.pidfd_open(os.getpid())
-            try:
+            with theirs:
                 self._guardian = subprocess.Popen(
-                    [sys.executable, "-I", "-S", str(GUARDIAN), str(own), folder],
-                    stdin=theirs.fileno(),
-                    stdout=subprocess.DEVNULL,
-                    cwd="/",
-                    start_new_session=True,
-                    pass_fds=(self._lock, own),
+                    [sys.executable, "-I", "-S", str(GUARDIAN), folder], stdin=theirs.fileno(), stdout=subprocess.DEVNULL, cwd="/",
+                    start_new_session=True, pass_fds=(self._lock,),
                 )
-            finally:
-                os.close(own)
-                theirs.close()
         except OSError as error:
             os.close(self._lock)
             raise RunFailed(f"the guardian can't be started: {error.strerror}") from error

@@ -14,7 +14,7 @@ from .proc import missing_capabilities
 from .text import text_lines
 
 ROOM = 1 << 16  # bytes of messages
-STATES, WINDOW, NAME, TABLES, ENTRIES = 1024, 1 << 16, 64, 32, 512  # linux/kernel/shared.h
+STATES, WINDOW, NAME, TABLES, ENTRIES, SET = 1024, 1 << 16, 64, 32, 512, 64  # linux/kernel/shared.h
 LACKING = re.compile(r"failed to resolve CO-RE relocation <[a-z_]+> \[[0-9]+\] (?:struct|enum|union) ([A-Za-z0-9_.]+)")
 SAID = re.compile(r"^(?:this kernel has no |struct .* has [0-9]+ bytes in this kernel).*$", re.MULTILINE)
 
@@ -38,7 +38,7 @@ class Window(ctypes.Structure):
 
     _fields_ = [*((name, ctypes.c_uint64) for name in ("first_page", "page_size", "scan_function", "queue_lists", "has_lists")),
                 ("lacking", ctypes.c_char * NAME), ("states", PageState * STATES), ("folios", ctypes.c_uint64 * WINDOW),
-                ("tables", ctypes.c_uint64 * ENTRIES * TABLES)]
+                ("zeros", ctypes.c_uint8 * SET * TABLES), ("tables", ctypes.c_uint64 * ENTRIES * TABLES)]
 
 
 class Settings(ctypes.Structure):

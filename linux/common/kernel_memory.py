@@ -138,14 +138,13 @@ class KernelMemory:
         window = ctypes.addressof(self._window.tables)
         return self.program("find_tables"), self.program("copy_table"), window, self._map, self._levels
 
-    def content_of(self, frame: int) -> int:
-        """Returns where the content of a frame is in the kernel's map of all memory."""
+    def zeros(self, frame: int, count: int, place: int = 0) -> int | None:
+        """Returns which of at most 512 base pages from a frame on are zero-filled; None where they can't be read. Each thread that calls
+        needs a place of its own, below TABLES."""
         self._find_own_page()
-        return self._map + frame * BASE
-
-    def is_zero(self, address: int) -> bool:
-        """Returns whether the base page at an address is zero-filled."""
-        return bool(self._run("find_zeros", group=address, numa_node=1).at)  # struct thp_zeros: address, count, zero
+        if self._try("find_zeros", Request(at=self._map + frame * BASE, length=count, found=place)):
+            return None
+        return int.from_bytes(self._window.zeros[place], "little")
 
     def program(self, name: str) -> int:
         """Returns the descriptor of a program of linux/kernel/memory.bpf.c."""

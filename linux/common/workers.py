@@ -31,12 +31,11 @@ MOST_WORKERS = TABLES
 MOST_SPANS = 1 << 18  # locked areas of a process
 MAP_NORESERVE = 0x4000
 LEAST_ROOM = 1 << 24  # bytes for pieces and what else is read
-KNOWN = 8 << 18  # bytes that pages.c has for blocks of frames
+KNOWN = 1 << 25  # bytes that pages.c has for blocks of frames
 WALK, FIND_TABLES = range(2)  # what a request asks for
 
 PIECE = struct.Struct("<QQQIIII64s")  # struct piece of pages.c
-CONTENT = struct.Struct("<QQ64s64s")  # struct content
-REQUEST, REPLY = struct.Struct("<iiiiqq"), struct.Struct("<6q")
+REQUEST, REPLY = struct.Struct("<iiiiqq"), struct.Struct("<5q")
 UNITS = PIECE.size, 8  # bytes of what a request has, and an answer has `found` of
 
 
@@ -47,7 +46,6 @@ def load_library() -> ctypes.CDLL:
     number, long, pointer = ctypes.c_int, ctypes.c_long, ctypes.c_void_p
     library.start_worker.argtypes = [pointer, number, pointer]
     library.find_locked.argtypes, library.find_locked.restype = [number, pointer, long], long
-    library.scan_frames.argtypes = [number, pointer, long, number]
     return library
 
 
@@ -73,7 +71,6 @@ class Answer(NamedTuple):
     found: int  # or an error's number below 0
     lost: int = 0
     small: int = 0
-    others: int = 0
     changed: int = 0
     spans: int = 0  # or an error's number below 0
     data: bytes = b""
