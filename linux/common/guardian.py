@@ -245,7 +245,8 @@ class Guardian:
 
     def __init__(self, folder: str) -> None:
         self._path = f"{folder}/{UNDO}"
-        self._undo = load(self._path)[0]  # what an earlier run left and couldn't be put back yet
+        self._former = load(self._path)[0]["groups"]  # what an earlier run left: for the next start of a tool
+        self._undo: Undo = {"settings": {}, "groups": {}}
         self._kept: list[int] = []  # pidfds
 
     def take(self, order: dict[str, Any], descriptors: list[int]) -> str:
@@ -262,23 +263,25 @@ class Guardian:
             self._kept.append(os.dup(descriptors[0]))
         return "ok"
 
+    def _store(self, undo: Undo) -> None:
+        store(self._path, {**undo, "groups": {**self._former, **undo["groups"]}})
+        self._undo = undo
+
     def _note(self, kind: str, path: str, value: list[str] | int) -> None:
         """Stores what is to be put back, before it is changed."""
-        undo = {**self._undo, kind: {**self._undo[kind], path: value}}
         try:
-            store(self._path, undo)
+            self._store({**self._undo, kind: {**self._undo[kind], path: value}})
         except OSError as error:
             raise OSError(error.errno, f"{self._path}: {error.strerror}: nothing is changed") from error
-        self._undo = undo
 
     def _make_group(self, path: str) -> None:
         """Makes a control group. Until its inode is stored, it is removed if it is empty, and nothing in it is killed."""
+        before = self._undo
         self._note("groups", path, 0)
         try:
             os.mkdir(path, 0o755)
         except OSError:
-            del self._undo["groups"][path]
-            store(self._path, self._undo)
+            self._store(before)
             raise
         self._note("groups", path, os.stat(path).st_ino)
 
@@ -286,7 +289,7 @@ class Guardian:
         """Puts everything back, and returns what could not be put back."""
         problems, left = put_back(self._undo, self._kept)
         with suppress(OSError):
-            store(self._path, left)
+            self._store(left)
         return problems
 
 

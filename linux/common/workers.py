@@ -43,9 +43,7 @@ UNITS = PIECE.size, 8  # bytes of what a request has, and an answer has `found` 
 def load_library() -> ctypes.CDLL:
     """Loads the C helper. Unavailable where it isn't built."""
     library = ctypes.CDLL(helper("pages.so"))
-    number, long, pointer = ctypes.c_int, ctypes.c_long, ctypes.c_void_p
-    library.start_worker.argtypes = [pointer, number, pointer]
-    library.find_locked.argtypes, library.find_locked.restype = [number, pointer, long], long
+    library.find_locked.argtypes, library.find_locked.restype = [ctypes.c_int, ctypes.c_void_p, ctypes.c_long], ctypes.c_long
     return library
 
 
@@ -81,7 +79,7 @@ class Worker:
     """One worker process. OSError where none can be started."""
 
     def __init__(self, flags: int, known: int, most: int, tables: tuple[int, ...], place: int) -> None:
-        self._most, self._size = most, max(most * PIECE.size, LEAST_ROOM)
+        self._most, self._size, self.place = most, max(most * PIECE.size, LEAST_ROOM), place
         self._memory, at = new_room(self._size + 16 * MOST_SPANS)
         words = struct.pack("<QQQqqiiQQqq", at, at + self._size, known, most, MOST_SPANS, *tables, place)
         ends = (ctypes.c_int * 3)()
@@ -89,9 +87,8 @@ class Worker:
         if error:
             raise OSError(-error, os.strerror(-error))
         self.socket, self._handle, self._number = ends
-        self.request, self.place = Request(0, WALK), place
+        self.request, self.limit = Request(0, WALK), 0.0  # seconds
         self.wake = self.until = self.last = 0.0  # from when on it counts as waiting, when it is killed if it does, when in any case
-        self.limit = 0.0  # seconds
         self._ran: float | None = None  # seconds, when it began to count as waiting
         self.is_suspect = False  # another process of this user made the tool wait
 
@@ -100,11 +97,10 @@ class Worker:
         count = len(request.data) // UNITS[request.what]
         place = (self._most - count) * PIECE.size if request.what == WALK else 0
         self._memory[place : place + len(request.data)] = request.data
-        words = (request.what, request.thread, request.process, with_small, min(most, self._most), count)
         self.request, self.until = request, time.monotonic() + self.limit
         self.last, self._ran = self.until + PATIENCE * self.limit, None
         with suppress(OSError):  # it was killed: `end` then finds no answer
-            os.write(self.socket, REQUEST.pack(*words))
+            os.write(self.socket, REQUEST.pack(request.what, request.thread, request.process, with_small, min(most, self._most), count))
 
     def _run_time(self) -> float:
         """Returns for how many seconds it has run; 0 where the kernel doesn't count that (SCHED_INFO)."""
@@ -127,10 +123,9 @@ class Worker:
     def end(self) -> Answer | None:
         """Returns the answer; None where the worker was killed."""
         try:
-            numbers = REPLY.unpack(os.read(self.socket, REPLY.size))
+            answer = Answer(*REPLY.unpack(os.read(self.socket, REPLY.size)))
         except (OSError, struct.error):
             return None
-        answer = Answer(*numbers)
         data = self._memory[: max(0, answer.found) * UNITS[self.request.what]]
         locked = self._memory[self._size : self._size + 16 * max(0, min(answer.spans, MOST_SPANS))]
         return answer._replace(data=data, locked=locked)
