@@ -35,10 +35,11 @@ sys.path.insert(0, str(ROOT))
 
 from linux.common.errors import DIFFERS, DONE, FAILED, INCONCLUSIVE, SKIPPED, USAGE  # noqa: E402
 from linux.common.files import THP, read  # noqa: E402
+from linux.common.groups import find_hierarchy  # noqa: E402
 from linux.common.keeper import Keeper  # noqa: E402
-from linux.common.user import NOBODY  # noqa: E402
-from linux.tests.attackers import attacker  # noqa: E402
-from linux.tests.root_case import RootCase, main  # noqa: E402
+from linux.common.proc import name_of, processes  # noqa: E402
+from linux.tests.attackers import NOBODY, attacker  # noqa: E402
+from linux.tests.root_case import RootCase, heed_interrupts, main  # noqa: E402
 
 HERE = Path(__file__).resolve().parent
 REPLAY, RECORD = [str(ROOT / "linux/thpreplay"), "--wait"], [str(ROOT / "linux/thprecord"), "--wait"]
@@ -47,6 +48,7 @@ SCRIPT, JOURNAL = str(ROOT / "examples/first.script"), str(ROOT / "examples/kern
 OWN = [WHATIF, "now", "--pid", str(os.getpid())]
 HANGS = 600  # seconds after which a call hangs, however loaded the machine is
 STAND_IN = 7  # the status of a command in the stand-in for qemu
+ROUNDS = 8  # of signals, for each tool
 CALLER = 1  # the user behind sudo: Debian's daemon
 PIECE, PIECES = 1 << 20, 2000  # bytes, and their number: what a package unpacks to
 MOST_MEMORY = 1 << 30  # bytes of a tool that reads such a package; without a limit it takes twice what the package unpacks to
@@ -301,15 +303,14 @@ class SurroundingsTests(AttackCase):
                             self.check(done, [FAILED, SKIPPED, 1, 127], ": ")  # 1, 127: Python can't begin
 
     def test_signals(self) -> None:
-        """Any signal at any moment: no traceback, and all settings are put back."""
-        chance, before = random.Random(1), settings()
+        """Any signal at any moment: no traceback, and all is put back."""
+        chance, before = random.Random(1), machine_state()
         sent = [signal.SIGINT, signal.SIGTERM, signal.SIGHUP, signal.SIGQUIT, signal.SIGPIPE, signal.SIGALRM, signal.SIGUSR1,
                 signal.SIGABRT, signal.SIGKILL, signal.SIGSEGV]
         tools = ([WHATIF, "verify", "--wait", "--rounds", "9"], [*REPLAY, "--random", "1000", "--quiet"], [*RECORD, "--own", "1,100000,1"])
-        for words in [words for words in tools for _ in range(6)]:
+        for words in [words for words in tools for _ in range(ROUNDS)]:
             number, moment = chance.choice(sent), chance.uniform(0.1, 1.2)
             with self.subTest(words=words, signal=number.name, after=moment):
-                heed_interrupts = partial(signal.signal, signal.SIGINT, signal.default_int_handler)
                 with subprocess.Popen(words, **PIPES, preexec_fn=heed_interrupts) as tool:
                     time.sleep(moment)
                     tool.send_signal(number)
@@ -317,14 +318,19 @@ class SurroundingsTests(AttackCase):
                         tool.wait(1)
                     tool.terminate()  # one that the signal didn't end
                     self.assertNotIn(b"Traceback", tool.communicate(timeout=HANGS)[1])
-                self.assertEqual(settings(), before)
+                self.assertEqual(machine_state(), before)
 
 
-def settings() -> list[str]:
-    """Every setting of transparent huge pages, while no tool runs."""
+def machine_state() -> list[str]:
+    """Returns every setting of transparent huge pages, the control groups of tools, and the processes that they start, while no tool
+    runs; these processes have five seconds to end."""
     paths = sorted(path for path in Path(THP).rglob("*") if path.is_file() and path.stat().st_mode & 0o200)
     with Keeper("test", wait=True):
-        return [read(path) for path in paths if "stats" not in path.parts]
+        until, own = time.monotonic() + 5, ["not looked for"]
+        while own and time.monotonic() < until:
+            own = [name_of(process) for process in processes() if name_of(process) in ("mapper", "workload", "known")]
+        groups = [path for path, _, _ in os.walk(find_hierarchy().top) if "/thp" in path]
+        return [read(path) for path in paths if "stats" not in path.parts] + groups + own
 
 
 if __name__ == "__main__":
