@@ -96,8 +96,7 @@ class Groups:
             write(f"{self.path}/cgroup.subtree_control", "+memory")
 
     def _make(self, path: str) -> None:
-        self._keeper.make_group(path)
-        self._inodes[path] = os.stat(path).st_ino
+        self._inodes[path] = self._keeper.make_group(path)
 
     def add(self, name: str, is_freezable: bool = False) -> str:
         """Returns the path of a new group below ours, which swaps nothing out. `is_freezable`: `freeze` may hold it."""

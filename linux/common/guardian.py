@@ -1,20 +1,15 @@
 """The guardian of a run: puts the machine back when the tool ends, however it ends.
 
-The tool starts this file as a process of its own session, with a socket (SOCK_SEQPACKET) as standard input; `ok` comes back
-once guardian and standby run. Each packet is an order, a JSON object, which is answered by `ok` or by what is wrong:
+The tool stores what it changes, before it changes it, in the file `undo` of its folder, synced and whole: what can't be stored isn't
+changed. It starts this file as a process of its own session, with a socket (SOCK_SEQPACKET) as standard input; `ok` comes back once
+guardian and standby run. Each packet has a pidfd: that process is killed at the end.
 
-    {"file": PATH, "text": TEXT, "set": TEXT}   at the end, write the first TEXT into PATH; the tool writes the second one now
-    {"group": PATH}                             make this control group; at the end, kill the processes in it, and remove it
-                                                with all groups in it
-    {"keep": true}                              at the end, kill the process whose pidfd comes with this order
+The end is the end of the socket: it comes also if the tool is killed. A second process of this file (the standby) puts everything
+back if the guardian is killed, and the next start of a tool if all three are. Both leave the tool's control groups: what ends or
+freezes a group reaches neither. The tool's lock is inherited, so no other tool begins before all is put back.
 
-Settings and groups are first stored in the file `undo` of the tools' folder, synced and whole: an order that can't be stored
-is refused. So a second process of this file (the standby) puts everything back if the guardian is killed, and the next start
-of a tool if all three are. Both leave the tool's control groups: what ends or freezes a group reaches neither.
-
-The end is the end of the socket: it comes also if the tool is killed. The tool's lock is inherited, so no other tool begins
-before all is put back. What could not be put back is reported on standard error, with status 1; groups are tried again by the
-next start of a tool. Nothing of the package is imported, so that no error in it can keep the guardian from its work.
+What could not be put back is reported on standard error, with status 1; groups are tried again by the next start of a tool. Nothing
+of the package is imported, so that no error in it can keep the guardian from its work.
 """
 
 from __future__ import annotations
@@ -32,19 +27,19 @@ from typing import Any, Dict
 
 PATIENCE = 10.0  # seconds that processes get to end, and control groups to become empty
 STANDBY_PATIENCE = 2.0  # seconds that the standby gets to end
-PACKET = 1 << 17  # bytes of the longest order
+PACKET = 1 << 12  # bytes of the longest packet
 AT_ONCE = 100  # processes of which pidfds are open
 UNDO = "undo"
 HIERARCHIES = ("freezer", "memory")  # of version 1: those that end or freeze processes
 
 # What is to be put back: of each of the `settings` the former text, then those that the tool set, if the file shows its value; of
-# each of the `groups` its inode, or 0 as long as it isn't known.
+# each of the `groups` its inode, or 0 as long as it isn't known, and so of those that an earlier run has `left`.
 Undo = Dict[str, Dict[str, Any]]
 
 
 def load(path: str) -> tuple[Undo, list[str]]:
     """Returns what a file has to be put back, and a line if it can't be read."""
-    nothing: Undo = {"settings": {}, "groups": {}}
+    nothing: Undo = {"settings": {}, "groups": {}, "left": {}}
     try:
         with open(path, "rb") as file:
             found = json.loads(file.read())
@@ -209,10 +204,10 @@ def may_be_ours(path: str, inode: int) -> bool:
         return False
 
 
-def put_back(undo: Undo, pidfds: list[int]) -> tuple[list[str], Undo]:
-    """Puts this back, and kills these processes; returns what could not be put back, in words, and the control groups to try again.
-    Settings come first, before anything is waited for. A setting that a group of ours holds (cgroup.subtree_control of version 2) is
-    tried again after the groups."""
+def put_back(undo: Undo, pidfds: list[int] | tuple[()] = ()) -> tuple[list[str], dict[str, int]]:
+    """Puts settings and groups back, and kills these processes; returns what could not be put back, in words, and the groups to try
+    again. Settings come first, before anything is waited for. A setting that a group of ours holds (cgroup.subtree_control of version
+    2) is tried again after the groups."""
     settings = dict(reversed(list(undo["settings"].items())))
     problems = {path: restore(path, texts) for path, texts in settings.items()}
     for pidfd in pidfds:
@@ -227,70 +222,19 @@ def put_back(undo: Undo, pidfds: list[int]) -> tuple[list[str], Undo]:
             left[path] = inode
     for path in filter(problems.get, settings):
         problems[path] = restore(path, settings[path])
-    return [problem for problem in problems.values() if problem], {"settings": {}, "groups": left}
+    return [problem for problem in problems.values() if problem], left
 
 
-def put_back_all(folder: str) -> tuple[Undo, list[str]]:
-    """Puts back what an ended run left below a folder; returns what that was, and what could not be put back."""
-    path = f"{folder}/{UNDO}"
-    undo, unread = load(path)
-    problems, left = put_back(undo, [])
+def put_back_all(folder: str, pidfds: list[int] | tuple[()] = (), is_start: bool = False) -> tuple[Undo, list[str]]:
+    """Puts back what a run stored below a folder, at the start of a tool also what earlier runs have left; returns what that was, and
+    what could not be put back."""
+    undo, unread = load(f"{folder}/{UNDO}")
+    if is_start:
+        undo = {**undo, "groups": {**undo["left"], **undo["groups"]}, "left": {}}
+    problems, left = put_back(undo, pidfds)
     with suppress(OSError):
-        store(path, left)
+        store(f"{folder}/{UNDO}", {"settings": {}, "groups": {}, "left": {**undo["left"], **left}})
     return undo, unread + problems
-
-
-class Guardian:
-    """What is to be put back, in memory and on disk below `folder`, and the processes to kill."""
-
-    def __init__(self, folder: str) -> None:
-        self._path = f"{folder}/{UNDO}"
-        self._former = load(self._path)[0]["groups"]  # what an earlier run left: for the next start of a tool
-        self._undo: Undo = {"settings": {}, "groups": {}}
-        self._kept: list[int] = []  # pidfds
-
-    def take(self, order: dict[str, Any], descriptors: list[int]) -> str:
-        """Carries out one order, and returns the answer."""
-        if "file" in order:
-            texts = self._undo["settings"].get(order["file"], [order["text"]])
-            self._note("settings", order["file"], texts + [text for text in (order["set"],) if text and text not in texts])
-        elif "group" in order:
-            self._make_group(order["group"])
-        else:
-            for ended in select.select(self._kept, [], [], 0)[0]:
-                self._kept.remove(ended)
-                os.close(ended)
-            self._kept.append(os.dup(descriptors[0]))
-        return "ok"
-
-    def _store(self, undo: Undo) -> None:
-        store(self._path, {**undo, "groups": {**self._former, **undo["groups"]}})
-        self._undo = undo
-
-    def _note(self, kind: str, path: str, value: list[str] | int) -> None:
-        """Stores what is to be put back, before it is changed."""
-        try:
-            self._store({**self._undo, kind: {**self._undo[kind], path: value}})
-        except OSError as error:
-            raise OSError(error.errno, f"{self._path}: {error.strerror}: nothing is changed") from error
-
-    def _make_group(self, path: str) -> None:
-        """Makes a control group. Until its inode is stored, it is removed if it is empty, and nothing in it is killed."""
-        before = self._undo
-        self._note("groups", path, 0)
-        try:
-            os.mkdir(path, 0o755)
-        except OSError:
-            self._store(before)
-            raise
-        self._note("groups", path, os.stat(path).st_ino)
-
-    def end(self) -> list[str]:
-        """Puts everything back, and returns what could not be put back."""
-        problems, left = put_back(self._undo, self._kept)
-        with suppress(OSError):
-            self._store(left)
-        return problems
 
 
 def report(problems: list[str]) -> int:
@@ -301,35 +245,30 @@ def report(problems: list[str]) -> int:
 
 
 def stand_by(guardian: socket.socket, tool: socket.socket, folder: str) -> int:
-    """Waits until the guardian has ended. If it was killed, refuses the tool's orders, and puts everything back once the tool ends."""
+    """Waits until the guardian has ended. If it was killed, puts everything back once the tool ends."""
     if guardian.recv(PACKET) == b"done":
         return 0
-    with suppress(OSError):
-        tool.shutdown(socket.SHUT_WR)
     end = select.poll()
     end.register(tool, 0)  # which reports a hang-up alone
     end.poll()
     return report(put_back_all(folder)[1])
 
 
-def serve(tool: socket.socket, guardian: Guardian) -> None:
-    """Carries out the tool's orders until it ends."""
-    tool.send(b"ok")
+def serve(tool: socket.socket) -> list[int]:
+    """Takes pidfds until the tool ends; returns those of processes that haven't ended."""
+    kept: list[int] = []
     while True:
-        packet, descriptors, _, _ = socket.recv_fds(tool, PACKET, 4)
+        packet, pidfds, _, _ = socket.recv_fds(tool, PACKET, 1)
         if not packet:
-            return
-        try:
-            answer = guardian.take(json.loads(packet), descriptors)
-        except OSError as error:
-            answer = error.strerror or str(error)
-        for descriptor in descriptors:
-            os.close(descriptor)
-        tool.send(answer.encode("utf-8", "replace"))
+            return kept
+        for ended in select.select(kept, [], [], 0)[0]:
+            kept.remove(ended)
+            os.close(ended)
+        kept += pidfds
 
 
 def main() -> int:
-    """Starts the standby, and serves the tool; the word is the tools' folder."""
+    """Starts the standby, and waits for the tool's end; the word is the tools' folder."""
     for each in (signal.SIGINT, signal.SIGTERM, signal.SIGHUP, signal.SIGQUIT, signal.SIGPIPE, signal.SIGTSTP):
         signal.signal(each, signal.SIG_IGN)
     leave_groups()
@@ -345,11 +284,11 @@ def main() -> int:
         ours.close()
         return stand_by(theirs, tool, folder)
     theirs.close()
-    waiting = os.pidfd_open(standby)
-    guardian = Guardian(folder)
-    with suppress(OSError):  # the tool ended between order and answer
-        serve(tool, guardian)
-    status = report(guardian.end())
+    waiting, kept = os.pidfd_open(standby), []
+    with suppress(OSError):  # the tool has ended
+        tool.send(b"ok")
+        kept = serve(tool)
+    status = report(put_back_all(folder, kept)[1])
     with suppress(OSError):
         ours.send(b"done")
     ours.close()

@@ -64,14 +64,14 @@ def load_library() -> ctypes.CDLL:
         missing = str(error).partition(":")[0]
         package = " (Debian package libbpf1)" if missing.startswith("libbpf") else ""
         raise Unavailable(f"the BPF programs need {missing}{package}") from error
-    number, size, pointer = ctypes.c_int, ctypes.c_size_t, ctypes.c_void_p
+    size, pointer = ctypes.c_size_t, ctypes.c_void_p
     for name, kinds, result in (
         ("thp_memory_open", [pointer, size], pointer),
-        ("thp_memory_run", [pointer, ctypes.c_char_p, pointer], number),
+        ("thp_memory_run", [pointer, ctypes.c_char_p, pointer], ctypes.c_int),
         ("thp_memory_window", [pointer], ctypes.POINTER(Window)),
-        ("thp_memory_program", [pointer, ctypes.c_char_p], number),
+        ("thp_memory_program", [pointer, ctypes.c_char_p], ctypes.c_int),
         ("thp_record_open", [pointer, pointer, size], pointer),
-        ("thp_record_take", [pointer, number, size, pointer], number),
+        ("thp_record_take", [pointer, ctypes.c_int, size, pointer], ctypes.c_int),
         ("thp_record_counters", [pointer, pointer], None),
         ("thp_record_close", [pointer], None),
     ):

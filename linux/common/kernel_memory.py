@@ -18,7 +18,7 @@ from .kernel_library import PageState, Request, load_library, open_programs
 TRIES = 20  # walks of a list that changes
 LONGEST = 1 << 20  # pages of a queue
 NUMA_NODES = "/sys/devices/system/node/has_memory"
-CHANGED, NO_FIELD = 1, 3  # linux/kernel/shared.h: enum answer
+CHANGED = 1  # linux/kernel/shared.h: enum answer
 REASONS = {
     2: "no address of deferred_split_lru (KALLSYMS_ALL; kptr_restrict, CAP_SYSLOG)",
     4: "control groups have no queues of their own (cgroup.memory=nokmem)",
@@ -47,10 +47,8 @@ class KernelMemory:
 
     def _demand(self, answer: int) -> None:
         """Unavailable, with the reason, where a program finds nothing."""
-        if answer == NO_FIELD:
-            raise Unavailable(f"this kernel has no {self._window.lacking.decode()}")
         if answer:
-            raise Unavailable(REASONS[answer])
+            raise Unavailable(REASONS.get(answer, f"this kernel has no {self._window.lacking.decode()}"))
 
     def _run(self, name: str, **numbers: int) -> Request:
         request = Request(**numbers)

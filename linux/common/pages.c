@@ -33,7 +33,7 @@ struct piece {
 
 /* What is known of a block of frames: how often it was touched, and from TOUCHES times on whether it has huge anonymous pages. Most
  * memory has none. Workers share the table. */
-enum { NONE = TOUCHES, SOME };
+enum { UNKNOWN, NONE = TOUCHES, SOME };
 
 struct walk {
     uint8_t *known;                     /* BLOCKS of them, of all processes of a look, or NULL */
@@ -101,13 +101,15 @@ static int read_block(struct walk *w, uint64_t block) {
     return 0;
 }
 
-/* Whether a block of frames is known to have no huge anonymous page. */
+/* Whether a block of frames is known to have no huge anonymous page. Others see a state once it is decided. */
 static int is_plain(struct walk *w, uint64_t block) {
-    uint8_t *known = &w->known[block % BLOCKS];
-    if (*known < TOUCHES && ++*known == TOUCHES && !read_block(w, block))
-        for (int i = 0; i < BLOCK; i++)
-            if (is_ours(w->block_flags[i])) { *known = SOME; break; }
-    return *known == NONE;
+    uint8_t known = __atomic_load_n(&w->known[block % BLOCKS], __ATOMIC_RELAXED);
+    if (known >= TOUCHES) return known == NONE;
+    if (++known == TOUCHES) known = read_block(w, block) ? UNKNOWN : NONE;
+    for (int i = 0; known == NONE && i < BLOCK; i++)
+        if (is_ours(w->block_flags[i])) known = SOME;
+    __atomic_store_n(&w->known[block % BLOCKS], known, __ATOMIC_RELAXED);
+    return known == NONE;
 }
 
 /* Finds the huge page around a frame of the block that was read: returns its order and fills `head`, or -1. */

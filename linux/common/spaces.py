@@ -60,10 +60,10 @@ def live_thread(process: int) -> Thread | None:
     if not fields or fields[SIZE] != b"0" or int(fields[FLAGS]) & KTHREAD:
         return thread_of(process, fields)
     try:
-        tasks = os.listdir(f"{proc.ROOT}/{process}/task")
+        tasks = map(int, os.listdir(f"{proc.ROOT}/{process}/task"))
     except ENDED:
         return None
-    return next(filter(None, (thread_of(int(task), stat_fields(int(task))) for task in tasks)), None)
+    return next(filter(None, (thread_of(task, stat_fields(task)) for task in tasks)), None)
 
 
 def thread_of(number: int, fields: list[bytes]) -> Thread | None:

@@ -16,7 +16,7 @@ from unittest import mock
 from ..common import program as programs
 from ..common.errors import Busy, InputFault, RunFailed, Unavailable
 from ..common.groups import find_hierarchy
-from ..common.guardian import Guardian, Undo, folders_below, load, put_back, remove_group, selected_word, store, write
+from ..common.guardian import Undo, folders_below, load, put_back, remove_group, selected_word, store, write
 from ..common.journal import journal_of, journal_text
 from ..common.keeper import Keeper
 from ..common.script import options_of, read_script, script_of
@@ -118,8 +118,7 @@ class KeeperTest(unittest.TestCase):
     def put_back(self, *texts: str, inode: int | None = None) -> tuple[list[str], dict[str, int]]:
         """Puts back a setting with these texts, and the group if an inode is given; returns problems, and groups to try again."""
         groups = {} if inode is None else {str(self.group): inode}
-        problems, left = put_back({"settings": {str(self.setting): list(texts)} if texts else {}, "groups": groups}, [])
-        return problems, left["groups"]
+        return put_back({"settings": {str(self.setting): list(texts)} if texts else {}, "groups": groups})
 
     def test_an_exception_puts_back(self) -> None:
         self.assertEqual((selected_word("a [b] c\n"), selected_word("12\n")), ("b", "12"))
@@ -203,7 +202,7 @@ class KeeperTest(unittest.TestCase):
         os.mkdir(self.run_folder, 0o700)
         self.group.mkdir()
         (self.group / "file").write_text("")  # it can't be removed yet
-        store(f"{self.run_folder}/undo", {"settings": {}, "groups": {str(self.group): 0}})
+        store(f"{self.run_folder}/undo", {"settings": {}, "groups": {str(self.group): 0}, "left": {}})
         for _ in range(2):
             self.keeper().close()
         (self.group / "file").unlink()
@@ -215,11 +214,11 @@ class KeeperTest(unittest.TestCase):
         for text in ('{"settings": {}', "[]", '{"settings": 3, "groups": {}}', "[" * 100000):
             path.write_text(text)
             undo, problems = load(str(path))
-            self.assertEqual((undo, len(problems)), ({"settings": {}, "groups": {}}, 1), text[:20])
+            self.assertEqual((any(undo.values()), len(problems)), (False, 1), text[:20])
 
     def test_what_can_not_be_stored_refuses_the_change(self) -> None:
         path = str(self.folder / "undo")
-        undo: Undo = {"settings": {"a": ["b"]}, "groups": {}}
+        undo: Undo = {"settings": {"a": ["b"]}, "groups": {}, "left": {}}
         store(path, undo)
         with mock.patch("os.fsync", side_effect=OSError(errno.ENOSPC, "full")):
             self.assertRaises(OSError, store, path, {"settings": {}, "groups": {"c": 1}})
@@ -230,14 +229,6 @@ class KeeperTest(unittest.TestCase):
             os.rmdir(f"{self.run_folder}/undo")
             self.assertRaisesRegex(Unavailable, "nothing/here", keeper.set, self.folder / "nothing/here", 1)
         self.assertEqual(self.setting.read_text(), "old\n")
-
-    def test_a_guardian_restores_without_its_file(self) -> None:
-        os.mkdir(self.run_folder)
-        guardian = Guardian(self.run_folder)
-        guardian.take({"file": str(self.setting), "text": "old", "set": "new"}, [])
-        self.setting.write_text("new")
-        os.unlink(f"{self.run_folder}/undo")
-        self.assertEqual((guardian.end(), self.setting.read_text()), ([], "old"))
 
     def test_a_setting_that_was_changed_since_is_left(self) -> None:
         self.setting.write_text("by an administrator\n")
