@@ -24,7 +24,7 @@ from .kernel_library import TABLES
 from .proc import ROOT
 
 SECONDS = 2.0  # that a worker may wait
-WORKED, PATIENCE = 0.01, 5  # part of that time in which it ran, if it doesn't wait, and how often it then may go on
+PATIENCE = 5  # how often one that runs may go on: a large process, or a busy machine
 LEAST = 0.1  # seconds, for a user who made the tool wait often
 SLOW = 0.1  # seconds after which a reading counts as waiting: another worker then goes on beside it
 MOST_WORKERS = TABLES
@@ -89,7 +89,6 @@ class Worker:
         self.socket, self._handle, self._number = ends
         self.request, self.limit = Request(0, WALK), 0.0  # seconds
         self.wake = self.until = self.last = 0.0  # from when on it counts as waiting, when it is killed if it does, when in any case
-        self._ran: float | None = None  # seconds, when it began to count as waiting
         self.is_suspect = False  # another process of this user made the tool wait
 
     def begin(self, request: Request, with_small: bool, most: int) -> None:
@@ -98,27 +97,17 @@ class Worker:
         place = (self._most - count) * PIECE.size if request.what == WALK else 0
         self._memory[place : place + len(request.data)] = request.data
         self.request, self.until = request, time.monotonic() + self.limit
-        self.last, self._ran = self.until + PATIENCE * self.limit, None
+        self.last = self.until + PATIENCE * self.limit
         with suppress(OSError):  # it was killed: `end` then finds no answer
             os.write(self.socket, REQUEST.pack(request.what, request.thread, request.process, with_small, min(most, self._most), count))
 
-    def _run_time(self) -> float:
-        """Returns for how many seconds it has run; 0 where the kernel doesn't count that (SCHED_INFO)."""
-        try:
-            return int(read_bytes(f"/proc/{self._number}/schedstat").split()[0]) / 1e9
-        except (OSError, ValueError):
-            return 0.0
-
-    def watch(self, now: float) -> None:
-        """Notes for how long it has run, once it counts as waiting."""
-        if self._ran is None and now >= self.wake:
-            self._ran = self._run_time()
-
-    def has_worked(self, now: float) -> bool:
-        """Returns whether it worked instead of waiting, and may go on: a large process, or a busy machine."""
-        before, self._ran = self._ran, self._run_time()
+    def may_go_on(self, now: float) -> bool:
+        """Returns whether it runs instead of waiting, after its time is over; gives it more time then."""
         self.until = min(now + self.limit, self.last)
-        return before is not None and self._ran - before > self.limit * WORKED and now < self.until
+        with suppress(OSError):
+            state = read_bytes(f"/proc/{self._number}/stat").rpartition(b")")[2].split()[0]
+            return state == b"R" and now < self.until
+        return False
 
     def end(self) -> Answer | None:
         """Returns the answer; None where the worker was killed."""
@@ -167,10 +156,7 @@ class Workers:
             wake = min(each.wake if each.wake > now else each.until for each in self._busy.values())
             ready = [number for number, _ in self._poll.poll(max(0.0, wake - now) * 1000 + 1)]
             now = time.monotonic()
-            for worker in self._busy.values():
-                worker.watch(now)
-            waiting = [each for number, each in self._busy.items() if each.until < now and number not in ready]
-            late = [each for each in waiting if not each.has_worked(now)]
+            late = [each for number, each in self._busy.items() if each.until < now and number not in ready and not each.may_go_on(now)]
             for worker in late + [self._busy[number] for number in ready]:
                 request, answer = worker.request, None if worker in late else worker.end()
                 self._busy.pop(worker.socket)

@@ -15,7 +15,7 @@ from collections import Counter, deque
 from typing import Any
 from unittest import mock
 
-from ..common import proc, spaces
+from ..common import proc, spaces, workers
 from ..common.errors import Unavailable
 from ..common.files import BASE
 from ..common.folios import Folio
@@ -104,17 +104,15 @@ class WaitingTest(unittest.TestCase):
             self.workers.close()
         self.assertEqual(children(), [])
 
-    def test_a_worker_that_works_may_go_on_for_a_while(self) -> None:
+    def test_a_worker_that_runs_may_go_on_for_a_while(self) -> None:
         self.answered(1)
         worker = self.workers._idle[0]
-        worker.limit, worker.wake = 2.0, 0.0
+        worker.limit = 2.0
         worker.begin(Request(1 << 30, WALK), False, 1)
-        begun = worker.until
-        for ran, now, may_go_on in ((1.0, 0.1, None), (1.1, 2.1, True), (1.11, 4.2, False), (1.5, 6.0, True), (9.0, 13.0, False)):
-            with mock.patch.object(worker, "_run_time", return_value=ran):
-                worker.watch(begun - 2 + now)
-                if may_go_on is not None:
-                    self.assertEqual(worker.has_worked(begun - 2 + now), may_go_on, now)
+        begun = worker.until - 2
+        for state, now, may_go_on in ((b"R", 2.1, True), (b"D", 4.2, False), (b"T", 6.0, False), (b"R", 6.0, True), (b"R", 13.0, False)):
+            with mock.patch.object(workers, "read_bytes", return_value=b"7 (a) b) " + state + b" 1 1"):
+                self.assertEqual(worker.may_go_on(begun + now), may_go_on, now)
 
     def test_workers_end_with_the_tool(self) -> None:
         code = "import os,time; from linux.common.kernel_memory import KernelMemory; from linux.common.reader import Reader;" \
