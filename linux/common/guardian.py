@@ -23,7 +23,7 @@ import socket
 import sys
 import time
 from contextlib import suppress
-from typing import Any, Dict
+from typing import Any, Dict, Sequence
 
 PATIENCE = 10.0  # seconds that processes get to end, and control groups to become empty
 STANDBY_PATIENCE = 2.0  # seconds that the standby gets to end
@@ -204,7 +204,7 @@ def may_be_ours(path: str, inode: int) -> bool:
         return False
 
 
-def put_back(undo: Undo, pidfds: list[int] | tuple[()] = ()) -> tuple[list[str], dict[str, int]]:
+def put_back(undo: Undo, pidfds: Sequence[int] = ()) -> tuple[list[str], dict[str, int]]:
     """Puts settings and groups back, and kills these processes; returns what could not be put back, in words, and the groups to try
     again. Settings come first, before anything is waited for. A setting that a group of ours holds (cgroup.subtree_control of version
     2) is tried again after the groups."""
@@ -225,7 +225,7 @@ def put_back(undo: Undo, pidfds: list[int] | tuple[()] = ()) -> tuple[list[str],
     return [problem for problem in problems.values() if problem], left
 
 
-def put_back_all(folder: str, pidfds: list[int] | tuple[()] = (), is_start: bool = False) -> tuple[Undo, list[str]]:
+def put_back_all(folder: str, pidfds: Sequence[int] = (), is_start: bool = False) -> tuple[Undo, list[str]]:
     """Puts back what a run stored below a folder, at the start of a tool also what earlier runs have left; returns what that was, and
     what could not be put back."""
     undo, unread = load(f"{folder}/{UNDO}")

@@ -237,30 +237,32 @@ class RefusedTests(CommonCase):
             self.assertIn(done.returncode, (FAILED, SKIPPED), problems)
             self.assertEqual(len(problems), 1, problems)
 
-    def test_full_folder(self) -> None:
+    def test_storage(self) -> None:
+        """A folder is full, or a limit of file sizes cuts what is stored: then those settings that were changed before are put back."""
         self.check_refused([*PRIVATE, FULL, "sh"])
-
-    def test_limits_of_files(self) -> None:
-        """A limit of file sizes cuts an entry: then the change that it is for isn't made, and those before are put back."""
         for size in (0, 10, 50, 100, 150, 200, 250, 300, 400):
             with self.subTest(size=size):
                 self.check_refused(["prlimit", f"--fsize={size}"], may_work=size > 250)
 
-    def test_limits_of_processes(self) -> None:
-        """A limit of processes ends the tool in one line before anything is changed."""
+    def test_processes(self) -> None:
+        """A limit of processes ends the tool before anything is changed."""
         tops = [folder for folder, kind, options in hierarchies() if "pids" in options.split(",")
                 or kind == "cgroup2" and "pids" in read(f"{folder}/cgroup.subtree_control").split()]
         if not tops:
             self.skipTest("no control groups that limit processes")
-        group = f"{tops[0]}/thptest-{os.getpid()}"
-        os.mkdir(group)
-        try:
-            for most in (1, 2):
-                write(f"{group}/pids.max", most)
-                self.check_refused(["sh", "-c", f"echo $$ > {group}/cgroup.procs && exec \"$@\"", "sh"])
-        finally:
-            until(lambda: not members(group), 3)
-            os.rmdir(group)
+        group = make_group(self, tops[0])
+        for most in (1, 2):
+            write(f"{group}/pids.max", most)
+            self.check_refused(["sh", "-c", f"echo $$ > {group}/cgroup.procs && exec \"$@\"", "sh"])
+
+
+def make_group(case: CommonCase, top: str) -> str:
+    """Makes a control group, and returns its path; it goes with the test."""
+    path = f"{top}/thptest-{os.getpid()}"
+    os.mkdir(path)
+    case.addCleanup(os.rmdir, path)
+    case.addCleanup(until, lambda: not members(path), 3)
+    return path
 
 
 class OthersTests(CommonCase):
@@ -268,22 +270,16 @@ class OthersTests(CommonCase):
 
     def test_group_of_another_is_spared(self) -> None:
         """A control group that exists already is neither emptied nor removed."""
-        path = f"{find_hierarchy().top}/thptest-{os.getpid()}"
-        os.mkdir(path)
-        child = subprocess.Popen(["sleep", "60"])
-        try:
-            for is_empty in (True, False):
-                if not is_empty:
-                    write(f"{path}/cgroup.procs", child.pid)
+        path = make_group(self, find_hierarchy().top)
+        with subprocess.Popen(["sleep", "60"]) as child:
+            for process in ("", str(child.pid)):
+                if process:
+                    write(f"{path}/cgroup.procs", process)
                 with suppress(Exception), Keeper("test", wait=True) as keeper:
                     keeper.make_group(path)
                 self.assertTrue(os.path.isdir(path), "it was removed")
                 self.assertIsNone(child.poll(), "its process was killed")
-        finally:
             child.kill()
-            child.wait()
-            until(lambda: not members(path), 3)
-            os.rmdir(path)
 
     @contextmanager
     def verifying(self, command: str, after: int) -> Iterator[subprocess.Popen[bytes]]:
@@ -334,17 +330,14 @@ class OthersTests(CommonCase):
         return self.skipTest("the number can't be had again")
 
     def test_looks_stop_nothing(self) -> None:
-        """The parent of a process that is looked at sees no stop of it, and the options that held processes are unknown."""
+        """The parent of a process that is looked at sees no stop of it."""
         with subprocess.Popen(["sleep", "60"]) as child:
-            words = [WHATIF, "now", "--pid", str(child.pid)]
-            look = subprocess.Popen([*words, "--thresholds", "off"], stdout=subprocess.DEVNULL, stderr=subprocess.DEVNULL)
-            stops = 0
+            words = [WHATIF, "now", "--pid", str(child.pid), "--thresholds", "off"]
+            look, stops = subprocess.Popen(words, stdout=subprocess.DEVNULL, stderr=subprocess.DEVNULL), 0
             while look.poll() is None:
                 stops |= os.waitpid(child.pid, os.WNOHANG | os.WUNTRACED)[0]
-            done = subprocess.run([*words, "--freeze"], capture_output=True, text=True, check=False)
             child.kill()
-        self.assertEqual((stops, done.returncode), (0, 2))
-        self.assertIn("--freeze", done.stderr)
+        self.assertEqual(stops, 0)
 
     def test_ignored_hang_up(self) -> None:
         """The hang-up of a terminal doesn't end a tool that nohup started."""
