@@ -254,13 +254,13 @@ def stand_by(guardian: socket.socket, tool: socket.socket, folder: str) -> int:
     return report(put_back_all(folder)[1])
 
 
-def serve(tool: socket.socket) -> list[int]:
-    """Takes pidfds until the tool ends; returns those of processes that haven't ended."""
-    kept: list[int] = []
+def serve(tool: socket.socket, kept: list[int]) -> None:
+    """Takes pidfds until the tool ends; those of processes that have ended are closed."""
+    tool.send(b"ok")
     while True:
         packet, pidfds, _, _ = socket.recv_fds(tool, PACKET, 1)
         if not packet:
-            return kept
+            return
         for ended in select.select(kept, [], [], 0)[0]:
             kept.remove(ended)
             os.close(ended)
@@ -284,10 +284,10 @@ def main() -> int:
         ours.close()
         return stand_by(theirs, tool, folder)
     theirs.close()
-    waiting, kept = os.pidfd_open(standby), []
+    waiting = os.pidfd_open(standby)
+    kept: list[int] = []
     with suppress(OSError):  # the tool has ended
-        tool.send(b"ok")
-        kept = serve(tool)
+        serve(tool, kept)
     status = report(put_back_all(folder, kept)[1])
     with suppress(OSError):
         ours.send(b"done")
