@@ -133,8 +133,9 @@ class KeeperTest(unittest.TestCase):
 
     def test_signals_put_back_and_end_processes(self) -> None:
         for number in (signal.SIGKILL, signal.SIGTERM, signal.SIGINT):
-            tool = self.run_tool(number)
-            child = int(tool.communicate()[0])
+            with self.run_tool(number) as tool:
+                assert tool.stdout
+                child = int(tool.stdout.readline())
             self.assertNotEqual(tool.returncode, 0)
             with self.keeper(wait=True):  # waits until the guardian has ended
                 self.assert_as_before()
