@@ -11,11 +11,12 @@ import time
 from array import array
 from bisect import bisect_right
 from collections import Counter, defaultdict, deque
-from concurrent.futures import ThreadPoolExecutor
-from contextlib import contextmanager
+from contextlib import contextmanager, suppress
+from threading import Thread
 from typing import Callable, Deque, Iterable, Iterator, Sequence
 
 from . import proc
+from .errors import Unavailable
 from .files import BASE
 from .folios import Folio, Mapping, compact_counts
 from .kernel_memory import KernelMemory
@@ -203,16 +204,29 @@ class Reader:
         """Reads which subpages are zero-filled, by the kernel's own map of memory, in threads: whole, whoever maps the page, and
         it counts as no access. What can't be read isn't `known`."""
 
-        def read_some(place: int) -> None:
-            for folio in batch[place :: self._threads]:
-                zero = self._kernel.zeros(folio.frame, folio.size, place)
-                folio.zero, folio.known = zero or 0, 0 if zero is None else folio.full
+        problems: list[Unavailable] = []
 
-        with self.timed("content"), ThreadPoolExecutor(self._threads) as pool:
+        def read_some(place: int) -> None:
+            try:
+                for folio in todo:  # each is another thread's, or this one's
+                    zero = self._kernel.zeros(folio.frame, folio.size, place)
+                    folio.zero, folio.known = zero or 0, 0 if zero is None else folio.full
+            except Unavailable as error:
+                problems.append(error)
+
+        with self.timed("content"):
             for first in range(0, len(folios), BATCH):
-                batch = folios[first : first + BATCH]
-                list(pool.map(read_some, range(self._threads)))
-                self._progress("reading content", first + len(batch), len(folios))
+                todo = iter(folios[first : first + BATCH])
+                threads = [Thread(target=read_some, args=(place,)) for place in range(1, self._threads)]
+                with suppress(RuntimeError):  # as many as the machine allows
+                    for thread in threads:
+                        thread.start()
+                read_some(0)
+                for thread in filter(Thread.is_alive, threads):
+                    thread.join()
+                if problems:
+                    raise problems[0]
+                self._progress("reading content", min(first + BATCH, len(folios)), len(folios))
 
     def keep_locked(self, folios: Iterable[Folio]) -> None:
         """Finds which subpages of pages locked areas keep."""
