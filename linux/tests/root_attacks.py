@@ -309,7 +309,7 @@ class SurroundingsTests(AttackCase):
                 signal.SIGABRT, signal.SIGKILL, signal.SIGSEGV]
         tools = ([WHATIF, "verify", "--wait", "--rounds", "9"], [*REPLAY, "--random", "1000", "--quiet"], [*RECORD, "--own", "1,100000,1"])
         for words in [words for words in tools for _ in range(ROUNDS)]:
-            number, moment = chance.choice(sent), chance.uniform(0.1, 1.2)
+            number, moment = chance.choice(sent), chance.uniform(0.4, 1.4)  # after the interpreter has begun
             with self.subTest(words=words, signal=number.name, after=moment):
                 with subprocess.Popen(words, **PIPES, preexec_fn=heed_interrupts) as tool:
                     time.sleep(moment)
