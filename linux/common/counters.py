@@ -12,6 +12,7 @@ import time
 from collections.abc import Callable, Iterable, Sequence
 from dataclasses import dataclass
 from itertools import product
+from typing import Any
 
 from .files import read, size_folder
 
@@ -46,11 +47,11 @@ class Counts:
     def since(self, before: Counts) -> Counts:
         """Returns what was added since an earlier moment."""
 
-        def less(now: int | None, then: int | None) -> int | None:
-            return None if now is None or then is None else now - then
+        def less(now: dict[Any, int | None], then: dict[Any, int | None]) -> dict[Any, int | None]:
+            pairs = ((key, value, then[key]) for key, value in now.items())
+            return {key: None if value is None or former is None else value - former for key, value, former in pairs}
 
-        return Counts({key: less(value, before.machine[key]) for key, value in self.machine.items()},
-                      {key: less(value, before.sizes[key]) for key, value in self.sizes.items()})
+        return Counts(less(self.machine, before.machine), less(self.sizes, before.sizes))
 
     def names(self) -> list[str]:
         """Returns the names of the statistics that aren't 0."""

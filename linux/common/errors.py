@@ -6,7 +6,7 @@ import signal
 import sys
 from contextlib import contextmanager
 from pathlib import Path
-from typing import Iterator, NoReturn
+from typing import Iterator
 
 from .text import one_line
 
@@ -27,17 +27,6 @@ class InputFault(Exception):
 
 class Busy(Exception):
     """Another tool holds the machine's lock; the text names it."""
-
-
-def end_by_signals() -> None:
-    """Has SIGTERM and SIGHUP end the tool as an exception does; one that the caller ignores (nohup) stays ignored."""
-
-    def stop(number: int, _frame: object) -> NoReturn:
-        raise SystemExit(128 + number)
-
-    for number in (signal.SIGTERM, signal.SIGHUP):
-        if signal.getsignal(number) != signal.SIG_IGN:
-            signal.signal(number, stop)
 
 
 @contextmanager
@@ -61,20 +50,18 @@ def place_of(error: BaseException) -> str:
 
 def status_of(name: str, error: BaseException) -> int:
     """Reports an exception in one line on standard error, and returns the tool's status for it."""
-    statuses = {Unavailable: SKIPPED, InputFault: USAGE, RunFailed: FAILED, Busy: BUSY}
-    status = next((number for kind, number in statuses.items() if isinstance(error, kind)), FAILED)
+    statuses = {Unavailable: SKIPPED, InputFault: USAGE, RunFailed: FAILED, Busy: BUSY, KeyboardInterrupt: 128 + signal.SIGINT}
+    text = str(error)
     if isinstance(error, KeyboardInterrupt):
-        text, status = "interrupted", 128 + signal.SIGINT
+        text = "interrupted"
     elif isinstance(error, Unavailable):
         text = f"skipped: {error}"
-    elif isinstance(error, (InputFault, RunFailed, Busy)):
-        text = str(error)
     elif isinstance(error, MemoryError):
         text = "out of memory"
     elif isinstance(error, OSError):
         where = f"{error.filename}: " if error.filename is not None else ""
         text = f"{where}{error.strerror or error} (at {place_of(error)})"
-    else:
+    elif not isinstance(error, tuple(statuses)):
         text = f"internal error: {type(error).__name__}: {error} (at {place_of(error)})"
     print(f"{name}: {one_line(text)}", file=sys.stderr, flush=True)
-    return status
+    return next((status for kind, status in statuses.items() if isinstance(error, kind)), FAILED)

@@ -7,7 +7,7 @@ import os
 import stat
 import sys
 from collections.abc import Iterator
-from contextlib import contextmanager, suppress
+from contextlib import ExitStack, contextmanager, suppress
 from pathlib import Path
 from typing import BinaryIO, TextIO, Union
 
@@ -67,12 +67,10 @@ def open_input(path: PathText) -> BinaryIO:
 def read_input(path: PathText, most: int = MOST_INPUT) -> bytes:
     """Returns all bytes of such a file. InputFault where it can't be read, is none, or has more than `most` bytes."""
     file = open_input(path)
-    try:
-        with named_faults(path, "can't be read"):
-            data = file.read(most + 1)
-    finally:
+    with named_faults(path, "can't be read"), ExitStack() as stack:
         if file is not sys.stdin.buffer:
-            file.close()
+            stack.enter_context(file)
+        data = file.read(most + 1)
     if len(data) > most:
         raise InputFault(f"{escape(str(path))} has more than {most >> 20} MiB")
     return data
@@ -84,13 +82,11 @@ class NewFile:
 
     def __init__(self, path: PathText) -> None:
         folder, self._name = os.path.split(str(path))
-        with named_faults(path, "can't be made"):
+        with named_faults(path, "can't be made"), ExitStack() as undone:
             self._folder = os.open(folder or ".", os.O_PATH | os.O_DIRECTORY | os.O_CLOEXEC)
-            try:
-                self.file = create(self._name, self._folder)
-            except BaseException:
-                os.close(self._folder)
-                raise
+            undone.callback(os.close, self._folder)
+            self.file = create(self._name, self._folder)
+            undone.pop_all()
 
     def remove(self) -> None:
         """Removes the file, unless something else has its name."""
@@ -142,8 +138,9 @@ class OwnFolder:
 def open_roots_folder(path: PathText, owner: int = 0) -> int:
     """Opens a folder that is root's (`owner`), into which nobody else may write, and returns its descriptor. No symbolic
     link is followed on the way, so that nobody redirects the path. InputFault where the folder isn't so."""
-    descriptor = os.open("/", _SEARCHED)
-    try:
+    with ExitStack() as undone:
+        descriptor = os.open("/", _SEARCHED)
+        undone.callback(lambda: os.close(descriptor))
         for name in Path(os.path.abspath(path)).parts[1:]:
             with named_faults(path, "can't be used as a folder"):
                 try:
@@ -156,9 +153,7 @@ def open_roots_folder(path: PathText, owner: int = 0) -> int:
         found = os.fstat(descriptor)
         if found.st_uid != owner or found.st_mode & 0o022:
             raise InputFault(f"{escape(str(path))} isn't root's folder, or others may write into it")
-    except BaseException:
-        os.close(descriptor)
-        raise
+        undone.pop_all()
     return descriptor
 
 
@@ -166,20 +161,17 @@ def replace_file(folder: int, name: str, text: str) -> None:
     """Replaces a file of this name in an open folder by a text, with mode 0644. The new file has no name before it is whole, so
     nothing is left of a writer that is killed. OSError where that isn't possible."""
     new = os.open(".", os.O_TMPFILE | os.O_WRONLY | os.O_CLOEXEC, 0o600, dir_fd=folder)
-    with open(new, "w", encoding="ascii", newline="\n") as file:
+    with open(new, "w", encoding="ascii", newline="\n") as file, ExitStack() as undone:
         file.write(text)
         file.flush()
         os.fchmod(new, 0o644)
         whole = f".{name}.{os.getpid()}"
-        try:
-            with suppress(FileNotFoundError):
-                os.unlink(whole, dir_fd=folder)
-            os.link(f"/proc/self/fd/{new}", whole, dst_dir_fd=folder)
-            os.replace(whole, name, src_dir_fd=folder, dst_dir_fd=folder)
-        except BaseException:
-            with suppress(FileNotFoundError):
-                os.unlink(whole, dir_fd=folder)
-            raise
+        with suppress(FileNotFoundError):
+            os.unlink(whole, dir_fd=folder)
+        os.link(f"/proc/self/fd/{new}", whole, dst_dir_fd=folder)
+        undone.callback(os.unlink, whole, dir_fd=folder)
+        os.replace(whole, name, src_dir_fd=folder, dst_dir_fd=folder)
+        undone.pop_all()
 
 
 def size_folder(order: int) -> str:

@@ -18,8 +18,7 @@ def full_set(order: int) -> int:
 
 @lru_cache(maxsize=64)
 def even_counts(count: int, size: int) -> tuple[int, ...]:
-    """Returns the map counts of a page whose `size` subpages are all mapped `count` times: one object for all such
-    pages."""
+    """Returns the map counts of a page whose `size` subpages are all mapped `count` times: one object for all such pages."""
     return (count,) * size
 
 

@@ -96,8 +96,7 @@ class Groups:
             write(f"{self.path}/cgroup.subtree_control", "+memory")
 
     def _make(self, path: str) -> None:
-        self._keeper.make_group(path)
-        self._inodes[path] = os.stat(path).st_ino
+        self._inodes[path] = self._keeper.make_group(path)
 
     def add(self, name: str, is_freezable: bool = False) -> str:
         """Returns the path of a new group below ours, which swaps nothing out. `is_freezable`: `freeze` may hold it."""
@@ -124,12 +123,11 @@ class Groups:
     def freeze(self, path: str) -> Iterator[Freeze]:
         """Holds the processes of a group still until the end of the `with`."""
         group, out, until = self._freezers[path], Freeze(), time.monotonic() + FREEZE_TIME
-        file, frozen, thawed = f"{group}/cgroup.freeze", "1", "0"
-        if os.path.exists(f"{group}/freezer.state"):  # version 1
-            file, frozen, thawed = f"{group}/freezer.state", "FROZEN", "THAWED"
+        is_old = os.path.exists(f"{group}/freezer.state")  # version 1
+        file, frozen, thawed = ("freezer.state", "FROZEN", "THAWED") if is_old else ("cgroup.freeze", "1", "0")
         try:
             try:
-                write(file, frozen)
+                write(f"{group}/{file}", frozen)
             except OSError as error:
                 out.problem = f"there is no freezer ({error.strerror})"
             while not out.problem and not is_frozen(group):
@@ -141,12 +139,11 @@ class Groups:
                 out.problem = "somebody else thawed the processes"
         finally:
             with suppress(OSError):
-                write(file, thawed)
+                write(f"{group}/{file}", thawed)
 
     def kill(self, path: str) -> bool:
         """Kills the processes of a group and of those in it, and waits a while for their end; returns whether they have ended."""
-        entry = {"group": path, "inode": self._inodes[path]}
-        return empty_groups([entry], time.monotonic() + END_TIME)
+        return empty_groups({path: self._inodes[path]}, time.monotonic() + END_TIME)
 
     def remove(self, path: str) -> None:
         """Removes an empty group. What can't be removed yet goes at the tool's end."""
@@ -159,11 +156,9 @@ class Groups:
         Version 1: a limit below the usage is asked for; the kernel makes one sweep down to the last priority and
         refuses (mm/memcontrol-v1.c: mem_cgroup_resize_max). Version 2: memory.reclaim, up to 16 sweeps.
         """
-        try:
+        with suppress(OSError):  # less could be reclaimed than was asked for: the sweep took place
             if self.version == 1:
                 write(f"{path}/memory.limit_in_bytes", BASE)
                 write(f"{path}/memory.limit_in_bytes", -1)
             else:
                 write(f"{path}/memory.reclaim", "1G")
-        except OSError:
-            pass  # less could be reclaimed than was asked for: the sweep took place

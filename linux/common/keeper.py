@@ -13,21 +13,18 @@ from __future__ import annotations
 
 import ctypes
 import fcntl
-import json
 import os
 import re
 import socket
 import stat
 import subprocess
 import sys
-from collections.abc import Sequence
 from contextlib import suppress
 from pathlib import Path
-from typing import Any
 
 from .errors import Busy, RunFailed, Unavailable
 from .files import PathText, read, read_bytes, selected_word, write
-from .guardian import PACKET, UNDO, put_back_all
+from .guardian import PACKET, UNDO, Undo, load, put_back_all, store
 from .text import escape, lines
 
 FOLDER = "/run/leversorrel"  # the tools' own: root's, mode 0700; gone with the next start of the machine
@@ -35,9 +32,7 @@ HOLDER = "lock"  # names who has the lock
 SHARED = ("tracefs", "debugfs")  # file systems that a kernel has once, whose root folder only root opens
 FSOPEN, FSCONFIG, FSMOUNT = 430, 431, 432  # system calls, the same on all processors
 CREATE, CLOSE_ON_EXEC = 6, 1  # FSCONFIG_CMD_CREATE; FSOPEN_CLOEXEC, FSMOUNT_CLOEXEC
-KINDS = {"file": "settings", "group": "control groups"}  # of entries
 GUARDIAN = Path(__file__).with_name("guardian.py")
-ENDED = "the guardian has ended: nothing more may be changed"
 
 
 def open_folder(folder: str) -> None:
@@ -114,22 +109,22 @@ def put_back_what_was_left(folder: str) -> list[str]:
     """Puts back what a run left that was killed with its guardian, and returns lines that report it. The lock is held."""
     if not os.path.exists(f"{folder}/{UNDO}"):
         return []
-    entries, problems = put_back_all(folder)
-    counts = {what: len({entry[key] for entry in entries if key in entry}) for key, what in KINDS.items()}
+    undo, problems = put_back_all(folder, is_start=True)
+    counts = {"settings": len(undo["settings"]), "control groups": len(undo["groups"])}
     found = ", ".join(f"{count} {what}" for what, count in counts.items() if count)
     return [f"put back what a killed run left: {found or 'nothing'}", *map(escape, problems)]
 
 
-def recover(name: str, folder: str = FOLDER) -> list[str]:
+def recover(name: str) -> list[str]:
     """Puts back the same with the lock, and returns these lines. Does nothing without root's rights, and while another tool runs."""
-    if os.geteuid() != 0 or not os.path.exists(f"{folder}/{UNDO}"):
+    if os.geteuid() != 0 or not os.path.exists(f"{FOLDER}/{UNDO}"):
         return []
     try:
-        lock = take_lock(folder, name, False)
+        lock = take_lock(FOLDER, name, False)
     except (Busy, Unavailable):
         return []
     try:
-        return put_back_what_was_left(folder)
+        return put_back_what_was_left(FOLDER)
     finally:
         os.close(lock)
 
@@ -150,22 +145,16 @@ class Keeper:
         self._lock = take_lock(folder, name, wait)
         for line in put_back_what_was_left(folder):
             print(f"{name}: {line}", file=sys.stderr, flush=True)
+        self._path = f"{folder}/{UNDO}"
+        self._undo = load(self._path)[0]
         self._guardian: subprocess.Popen[bytes] | None = None
         try:
             self._socket, theirs = socket.socketpair(socket.AF_UNIX, socket.SOCK_SEQPACKET)
-            own = os.pidfd_open(os.getpid())
-            try:
+            with theirs:
                 self._guardian = subprocess.Popen(
-                    [sys.executable, "-I", "-S", str(GUARDIAN), str(own), folder],
-                    stdin=theirs.fileno(),
-                    stdout=subprocess.DEVNULL,
-                    cwd="/",
-                    start_new_session=True,
-                    pass_fds=(self._lock, own),
+                    [sys.executable, "-I", "-S", str(GUARDIAN), folder], stdin=theirs.fileno(), stdout=subprocess.DEVNULL, cwd="/",
+                    start_new_session=True, pass_fds=(self._lock,),
                 )
-            finally:
-                os.close(own)
-                theirs.close()
         except OSError as error:
             os.close(self._lock)
             raise RunFailed(f"the guardian can't be started: {error.strerror}") from error
@@ -182,22 +171,33 @@ class Keeper:
 
     def set(self, path: PathText, value: object, undo: str | None = None) -> None:
         """Writes a setting. At the end its former value comes back, or `undo` if the file doesn't show its value."""
-        name, text = str(path), str(value) if undo is None else ""
+        name, text = str(path), str(value)
         try:
             former = selected_word(read(name)) if undo is None else undo
-            if former == text:
+            if undo is None and former == text:
                 return
-            self._send_order({"file": name, "text": former, "set": text})
+            texts = self._undo["settings"].get(name, [former])
+            self._note("settings", name, texts if undo is not None or text in texts else [*texts, text])
             write(name, value)
         except OSError as error:
             raise Unavailable(f"{name} can't be set to {value}: {error.strerror}") from error
 
-    def make_group(self, path: PathText) -> None:
-        """Makes a control group: a folder of cgroupfs."""
+    def make_group(self, path: PathText) -> int:
+        """Makes a control group, and returns its inode. Until that is stored, the group is removed at the end if it is empty, and nothing
+        in it is killed."""
+        before, name = self._undo, str(path)
         try:
-            self._send_order({"group": str(path)})
-        except RunFailed as failure:
-            raise Unavailable(f"control group {path} can't be made: {failure}") from failure
+            self._note("groups", name, 0)
+            try:
+                os.mkdir(name, 0o755)
+            except OSError:
+                self._store(before)
+                raise
+            inode = os.stat(name).st_ino
+            self._note("groups", name, inode)
+            return inode
+        except (OSError, RunFailed) as error:
+            raise Unavailable(f"control group {name} can't be made: {getattr(error, 'strerror', None) or error}") from error
 
     def own(self, process: int) -> None:
         """Passes a child of the tool to the guardian; it doesn't outlive the tool."""
@@ -209,7 +209,8 @@ class Keeper:
 
     def own_descriptor(self, descriptor: int) -> None:
         """Passes a process to the guardian by its pidfd, which the caller may close afterwards."""
-        self._send_order({"keep": True}, [descriptor])
+        self._check()
+        socket.send_fds(self._socket, [b"keep"], [descriptor])
 
     def close(self) -> None:
         """Has the guardian restore everything, and waits for it. It reports on standard error what it could not restore."""
@@ -220,11 +221,19 @@ class Keeper:
         guardian.wait()
         os.close(self._lock)
 
-    def _send_order(self, order: dict[str, Any], descriptors: Sequence[int] = ()) -> None:
-        """Gives the guardian an order. RunFailed if it doesn't carry it out."""
-        answer = b""
-        with suppress(OSError):  # it was killed, or `close` was called
-            socket.send_fds(self._socket, [json.dumps(order).encode()], list(descriptors))
-            answer = self._socket.recv(PACKET)
-        if answer != b"ok":
-            raise RunFailed(answer.decode("utf-8", "replace") or ENDED)
+    def _check(self) -> None:
+        """RunFailed where the guardian has ended."""
+        if self._guardian is None or self._guardian.poll() is not None:
+            raise RunFailed("the guardian has ended: nothing more may be changed")
+
+    def _note(self, kind: str, path: str, value: list[str] | int) -> None:
+        """Stores what is to be put back, before it is changed. RunFailed where that isn't possible."""
+        self._check()
+        try:
+            self._store({**self._undo, kind: {**self._undo[kind], path: value}})
+        except OSError as error:
+            raise RunFailed(f"{self._path}: {error.strerror}: nothing is changed") from error
+
+    def _store(self, undo: Undo) -> None:
+        store(self._path, undo)
+        self._undo = undo

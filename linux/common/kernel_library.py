@@ -14,7 +14,7 @@ from .proc import missing_capabilities
 from .text import text_lines
 
 ROOM = 1 << 16  # bytes of messages
-STATES, WINDOW, NAME, TABLES, ENTRIES = 1024, 1 << 16, 64, 32, 512  # linux/kernel/shared.h
+STATES, WINDOW, NAME, TABLES, ENTRIES, SET = 1024, 1 << 16, 64, 32, 512, 64  # linux/kernel/shared.h
 LACKING = re.compile(r"failed to resolve CO-RE relocation <[a-z_]+> \[[0-9]+\] (?:struct|enum|union) ([A-Za-z0-9_.]+)")
 SAID = re.compile(r"^(?:this kernel has no |struct .* has [0-9]+ bytes in this kernel).*$", re.MULTILINE)
 
@@ -38,7 +38,7 @@ class Window(ctypes.Structure):
 
     _fields_ = [*((name, ctypes.c_uint64) for name in ("first_page", "page_size", "scan_function", "queue_lists", "has_lists")),
                 ("lacking", ctypes.c_char * NAME), ("states", PageState * STATES), ("folios", ctypes.c_uint64 * WINDOW),
-                ("tables", ctypes.c_uint64 * ENTRIES * TABLES)]
+                ("zeros", ctypes.c_uint8 * SET * TABLES), ("tables", ctypes.c_uint64 * ENTRIES * TABLES)]
 
 
 class Settings(ctypes.Structure):
@@ -64,14 +64,14 @@ def load_library() -> ctypes.CDLL:
         missing = str(error).partition(":")[0]
         package = " (Debian package libbpf1)" if missing.startswith("libbpf") else ""
         raise Unavailable(f"the BPF programs need {missing}{package}") from error
-    number, size, pointer = ctypes.c_int, ctypes.c_size_t, ctypes.c_void_p
+    size, pointer = ctypes.c_size_t, ctypes.c_void_p
     for name, kinds, result in (
         ("thp_memory_open", [pointer, size], pointer),
-        ("thp_memory_run", [pointer, ctypes.c_char_p, pointer], number),
+        ("thp_memory_run", [pointer, ctypes.c_char_p, pointer], ctypes.c_int),
         ("thp_memory_window", [pointer], ctypes.POINTER(Window)),
-        ("thp_memory_program", [pointer, ctypes.c_char_p], number),
+        ("thp_memory_program", [pointer, ctypes.c_char_p], ctypes.c_int),
         ("thp_record_open", [pointer, pointer, size], pointer),
-        ("thp_record_take", [pointer, number, size, pointer], number),
+        ("thp_record_take", [pointer, ctypes.c_int, size, pointer], ctypes.c_int),
         ("thp_record_counters", [pointer, pointer], None),
         ("thp_record_close", [pointer], None),
     ):

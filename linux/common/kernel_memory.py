@@ -18,7 +18,7 @@ from .kernel_library import PageState, Request, load_library, open_programs
 TRIES = 20  # walks of a list that changes
 LONGEST = 1 << 20  # pages of a queue
 NUMA_NODES = "/sys/devices/system/node/has_memory"
-CHANGED, NO_FIELD = 1, 3  # linux/kernel/shared.h: enum answer
+CHANGED = 1  # linux/kernel/shared.h: enum answer
 REASONS = {
     2: "no address of deferred_split_lru (KALLSYMS_ALL; kptr_restrict, CAP_SYSLOG)",
     4: "control groups have no queues of their own (cgroup.memory=nokmem)",
@@ -47,10 +47,8 @@ class KernelMemory:
 
     def _demand(self, answer: int) -> None:
         """Unavailable, with the reason, where a program finds nothing."""
-        if answer == NO_FIELD:
-            raise Unavailable(f"this kernel has no {self._window.lacking.decode()}")
         if answer:
-            raise Unavailable(REASONS[answer])
+            raise Unavailable(REASONS.get(answer, f"this kernel has no {self._window.lacking.decode()}"))
 
     def _run(self, name: str, **numbers: int) -> Request:
         request = Request(**numbers)
@@ -138,14 +136,13 @@ class KernelMemory:
         window = ctypes.addressof(self._window.tables)
         return self.program("find_tables"), self.program("copy_table"), window, self._map, self._levels
 
-    def content_of(self, frame: int) -> int:
-        """Returns where the content of a frame is in the kernel's map of all memory."""
+    def zeros(self, frame: int, count: int, place: int = 0) -> int | None:
+        """Returns which of at most 512 base pages from a frame on are zero-filled; None where they can't be read. Each thread that calls
+        needs a place of its own, below TABLES."""
         self._find_own_page()
-        return self._map + frame * BASE
-
-    def is_zero(self, address: int) -> bool:
-        """Returns whether the base page at an address is zero-filled."""
-        return bool(self._run("find_zeros", group=address, numa_node=1).at)  # struct thp_zeros: address, count, zero
+        if self._try("find_zeros", Request(at=self._map + frame * BASE, length=count, found=place)):
+            return None
+        return int.from_bytes(self._window.zeros[place], "little")
 
     def program(self, name: str) -> int:
         """Returns the descriptor of a program of linux/kernel/memory.bpf.c."""

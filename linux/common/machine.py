@@ -45,6 +45,12 @@ def table(parts: list[Part]) -> str:
     return "\n".join(f"{each.name:{width}}  {'yes' if each.here else 'no '}  {each.text}" for each in parts)
 
 
+def demand(parts: list[Part], names: list[str]) -> None:
+    """Unavailable, with the reason of the first of these parts that isn't here."""
+    for each in parts:
+        need(each.here or each.name not in names, f"{each.name}: {each.text}")
+
+
 def need(is_so: object, reason: str) -> None:
     """Unavailable, with this reason, where something isn't so."""
     if not is_so:
@@ -56,41 +62,48 @@ def kernel() -> str:
     return f"Linux {os.uname().release}, {os.uname().machine}"
 
 
-def privileged() -> str:
+def namespace_note() -> str:
+    """Returns what a tool that runs in a PID namespace of its own can't see, in a line; nothing in the initial one."""
+    if os.stat("/proc/self/ns/pid").st_ino == INITIAL_NAMESPACE:
+        return ""
+    return "in a PID namespace: only the processes of this namespace are seen, others of the machine are not"
+
+
+def probe_root() -> str:
     need(os.geteuid() == 0, "not root")
     return "root"
 
 
-def huge_pages() -> str:
+def probe_huge_pages() -> str:
     need(os.path.isdir(THP), "this kernel has no transparent huge pages (TRANSPARENT_HUGEPAGE)")
     mode = selected_word(read(f"{THP}/enabled"))
     need(mode != "never", f"transparent huge pages are switched off ({THP}/enabled: never)")
     return f"enabled: {mode}"
 
 
-def sizes() -> str:
+def probe_sizes() -> str:
     orders = [str(order) for order in range(2, PMD_ORDER + 1) if os.path.isdir(size_folder(order))]
     need(orders, "no sizes with settings of their own (before Linux 6.8)")
     return "orders " + ", ".join(orders)
 
 
-def underused() -> str:
+def probe_underused() -> str:
     for path in (SWITCH, PTES_NONE):
         need(os.path.exists(path), f"no {path} (before Linux 6.12)")
     return f"shrink_underused {read(SWITCH).strip()}, max_ptes_none {read(PTES_NONE).strip()}"
 
 
-def groups() -> str:
+def probe_groups() -> str:
     found = find_hierarchy()
     return f"version {found.version}, below {found.top}"
 
 
-def counters() -> str:
+def probe_counters() -> str:
     need("thp_deferred_split_page" in read("/proc/vmstat"), "no thp_deferred_split_page in /proc/vmstat")
     return "/proc/vmstat" + (", hugepages-*kB/stats" if os.path.isdir(f"{size_folder(PMD_ORDER)}/stats") else "")
 
 
-def frames() -> str:
+def probe_frames() -> str:
     """Tried on a page of our own: the kernel shows 0 as frame to who lacks CAP_SYS_ADMIN (mm/pagemap.rst)."""
     page = mmap.mmap(-1, BASE, flags=mmap.MAP_PRIVATE | mmap.MAP_ANONYMOUS)
     page[0] = 1
@@ -100,11 +113,15 @@ def frames() -> str:
     return "/proc/kpageflags, /proc/kpagecount"
 
 
-def namespace_note() -> str:
-    """Returns what a tool that runs in a PID namespace of its own can't see, in a line; nothing in the initial one."""
-    if os.stat("/proc/self/ns/pid").st_ino == INITIAL_NAMESPACE:
-        return ""
-    return "in a PID namespace: only the processes of this namespace are seen, others of the machine are not"
+COMMON = {
+    "root": probe_root, "huge pages": probe_huge_pages, "page sizes": probe_sizes, "underused pages": probe_underused,
+    "memory control groups": probe_groups, "frames": probe_frames, "counters": probe_counters,
+}
+
+
+def common_parts() -> list[Part]:
+    """Returns the parts that every tool needs."""
+    return [probe_part(name, look) for name, look in COMMON.items()]
 
 
 def memory() -> tuple[KernelMemory | None, list[Part]]:
@@ -124,22 +141,3 @@ def memory() -> tuple[KernelMemory | None, list[Part]]:
 
     parts = [Part("kernel memory", True, "BPF, BTF"), probe_part("control groups in it", locate_groups)]
     return found, [*parts, probe_part("queues in it", found.locate_queues), probe_part("struct page in it", locate_pages)]
-
-
-def common_parts() -> list[Part]:
-    """Returns the parts that every tool needs."""
-    return [
-        probe_part("root", privileged),
-        probe_part("huge pages", huge_pages),
-        probe_part("page sizes", sizes),
-        probe_part("underused pages", underused),
-        probe_part("memory control groups", groups),
-        probe_part("frames", frames),
-        probe_part("counters", counters),
-    ]
-
-
-def demand(parts: list[Part], names: list[str]) -> None:
-    """Unavailable, with the reason of the first of these parts that isn't here."""
-    for each in parts:
-        need(each.here or each.name not in names, f"{each.name}: {each.text}")

@@ -14,9 +14,6 @@ from typing import Sequence
 from .errors import Unavailable
 from .files import BASE
 
-_PRESENT = 1 << 63
-_FRAME = (1 << 55) - 1
-
 
 class PageFlag:
     """Bits of /proc/kpageflags that the tools use."""
@@ -54,7 +51,7 @@ class NumberFile(io.FileIO):
 
 def frame_of_entry(entry: int) -> int | None:
     """Returns the frame of a pagemap entry, or None where nothing is present."""
-    return entry & _FRAME if entry & _PRESENT else None
+    return entry & (1 << 55) - 1 if entry >> 63 else None
 
 
 def frames_at(process: int, address: int, count: int) -> list[int | None]:

@@ -1,29 +1,23 @@
-/* What a look at huge pages reads in bulk, as a shared library for linux/common/workers.py.
- *
- *   start_worker    a process that reads what may wait for another process's mmap_lock: page tables, maps, smaps
- *   scan_frames     which subpages of many huge pages are zero-filled, by a BPF program, in threads
- */
+/* Worker processes for linux/common/workers.py: each reads what may wait for another process's mmap_lock, page tables and smaps. */
 #define _GNU_SOURCE
 #include <errno.h>
 #include <fcntl.h>
 #include <linux/bpf.h>
-#include <pthread.h>
 #include <sched.h>
 #include <signal.h>
 #include <stdint.h>
 #include <stdio.h>
-#include <stdlib.h>
 #include <string.h>
 #include <sys/prctl.h>
 #include <sys/socket.h>
 #include <sys/syscall.h>
 #include <unistd.h>
+#include "../kernel/shared.h"
 
-enum { BASE = 4096, BLOCK = 512, PMD_ORDER = 9, RECENT = 64, TEXT = 1 << 16, LINE = 256, BLOCKS = 1 << 18, TOUCHES = 16,
-       WORD = 64, MOST_THREADS = 16 };
+enum { BASE = 4096, BLOCK = 512, RECENT = 64, TEXT = 1 << 16, LINE = 256, BLOCKS = 1 << 25, TOUCHES = 16 };
 
 /* arch/x86/include/asm/pgtable_types.h */
-enum { PRESENT = 1, LEAF = 1 << 7, NO_ACCESS = 1 << 8, ENTRIES = 512, TABLE_BITS = 9 };
+enum { PRESENT = 1, LEAF = 1 << 7, NO_ACCESS = 1 << 8, TABLE_BITS = 9 };
 #define FRAME_BITS 0x000ffffffffff000ul
 
 /* include/uapi/linux/kernel-page-flags.h */
@@ -37,13 +31,12 @@ struct piece {
     uint64_t set[BLOCK / 64];
 };
 
-/* Whether a block of frames has huge anonymous pages, once it was touched often: the block in the high half, the touches, and one
- * of these states in the last two bits. Most memory has none. Workers share the table. */
-enum { UNKNOWN, NONE, SOME, STATES };
-typedef uint64_t known;
+/* What is known of a block of frames: how often it was touched, and from TOUCHES times on whether it has huge anonymous pages. Most
+ * memory has none. Workers share the table. */
+enum { UNKNOWN, NONE = TOUCHES, SOME };
 
 struct walk {
-    known *known;                       /* BLOCKS of them, of all processes of a look, or NULL */
+    uint8_t *known;                     /* BLOCKS of them, of all processes of a look, or NULL */
     const struct tables *tables;
     int flags_file, process, with_small;
     struct piece *out;
@@ -57,19 +50,16 @@ struct walk {
 /* What reads page tables: no lock is taken, and no right to frame numbers is needed. */
 struct tables {
     int32_t find, copy;                 /* programs of linux/kernel/memory.bpf.c */
-    uint64_t (*copies)[ENTRIES];        /* shared with `copy` */
+    unsigned long long (*copies)[ENTRIES]; /* shared with `copy` */
     uint64_t map;                       /* where the kernel's map of all memory begins */
     int64_t levels, place;              /* levels of tables; which copy is ours */
 };
 
-/* Runs a BPF program once; returns whether its answer is 0. */
-static int run_program(int program, void *context, long size) {
-    union bpf_attr run = { .test = { .prog_fd = program, .ctx_size_in = size, .ctx_in = (uintptr_t)context } };
-    return syscall(SYS_bpf, BPF_PROG_TEST_RUN, &run, sizeof run) >= 0 && !run.test.retval;
+/* Runs a BPF program once; returns whether it finds what is requested. */
+static int run_program(int program, struct thp_request *request) {
+    union bpf_attr run = { .test = { .prog_fd = program, .ctx_size_in = sizeof *request, .ctx_in = (uintptr_t)request } };
+    return syscall(SYS_bpf, BPF_PROG_TEST_RUN, &run, sizeof run) >= 0 && run.test.retval == FINE;
 }
-
-/* linux/kernel/shared.h: struct thp_request */
-struct table_request { uint64_t group, numa_node, at, found, length; };
 
 /* The frame of an entry that has one of these bits, or 0. It is inverted in one that isn't present (asm/pgtable-invert.h). */
 static uint64_t frame_of(uint64_t entry, uint64_t bits) {
@@ -111,17 +101,15 @@ static int read_block(struct walk *w, uint64_t block) {
     return 0;
 }
 
-/* Whether a block of frames is known to have no huge anonymous page. */
+/* Whether a block of frames is known to have no huge anonymous page. Others see a state once it is decided. */
 static int is_plain(struct walk *w, uint64_t block) {
-    known *at = &w->known[block % BLOCKS], k = __atomic_load_n(at, __ATOMIC_RELAXED);
-    if (k >> 32 != (uint32_t)block) k = block << 32;
-    if (k % (STATES + 1) == UNKNOWN && (uint32_t)(k += STATES + 1) / (STATES + 1) >= TOUCHES && !read_block(w, block)) {
-        k += NONE;
-        for (int i = 0; i < BLOCK; i++)
-            if (is_ours(w->block_flags[i])) { k += SOME - NONE; break; }
-    }
-    __atomic_store_n(at, k, __ATOMIC_RELAXED);
-    return k % (STATES + 1) == NONE;
+    uint8_t known = __atomic_load_n(&w->known[block % BLOCKS], __ATOMIC_RELAXED);
+    if (known >= TOUCHES) return known == NONE;
+    if (++known == TOUCHES) known = read_block(w, block) ? UNKNOWN : NONE;
+    for (int i = 0; known == NONE && i < BLOCK; i++)
+        if (is_ours(w->block_flags[i])) known = SOME;
+    __atomic_store_n(&w->known[block % BLOCKS], known, __ATOMIC_RELAXED);
+    return known == NONE;
 }
 
 /* Finds the huge page around a frame of the block that was read: returns its order and fills `head`, or -1. */
@@ -183,9 +171,9 @@ static void take_entries(struct walk *w, uint64_t at, const uint64_t *entries) {
  * has frames whose flags don't fit, or that a second look doesn't find. */
 static void walk_table(struct walk *w, uint64_t table, int level, uint64_t begin, uint64_t start, uint64_t end) {
     uint64_t entries[ENTRIES], size = (uint64_t)BASE << TABLE_BITS * level;
-    struct table_request request = { .at = w->tables->map + table, .found = (uint64_t)w->tables->place };
+    struct thp_request request = { .at = w->tables->map + table, .found = (uint64_t)w->tables->place };
     long count = level + 1 == w->tables->levels ? ENTRIES / 2 : ENTRIES; /* the other half is the kernel's */
-    if (!run_program(w->tables->copy, &request, sizeof request)) { w->changed += BLOCK; return; }
+    if (!run_program(w->tables->copy, &request)) { w->changed += BLOCK; return; }
     memcpy(entries, w->tables->copies[w->tables->place], sizeof entries);
     if (!level) { take_entries(w, begin, entries); return; }
     for (long i = 0; i < count; i++) {
@@ -226,121 +214,77 @@ static int open_file(int thread, const char *name) {
     return open(path, O_RDONLY | O_CLOEXEC);
 }
 
-/* What status and smaps contain of a process: amounts in bytes; in `out` the locked VMAs, ascending, adjacent ones joined. */
-struct texts {
-    int64_t anonymous, locked;
-    struct span *out, here;             /* here: the VMA that the lines are of */
-    long found, most;
-};
-
-/* Whether a line of flags, `VmFlags: rd wr lo`, has `lo`. */
-static int is_locked(const char *line) {
-    for (const char *at = line; (at = strstr(at, " lo")); at++)
-        if (at[3] == ' ' || !at[3]) return 1;
-    return 0;
-}
-
-static void take_line(struct texts *t, const char *line) {
-    struct span range;
-    char space;
-    if (sscanf(line, "%lx-%lx%c", &range.low, &range.high, &space) == 3 && space == ' ' && range.low < range.high)
-        t->here = range;
-    else if (!strncmp(line, "RssAnon:", 8))
-        t->anonymous = strtoll(line + 8, NULL, 10) << 10;
-    else if (!strncmp(line, "VmLck:", 6))
-        t->locked = strtoll(line + 6, NULL, 10) << 10;
-    else if (!strncmp(line, "VmFlags:", 8) && is_locked(line)) {
-        if (t->found && t->found <= t->most && t->out[t->found - 1].high == t->here.low)
-            t->out[t->found - 1].high = t->here.high;
-        else if (t->found++ < t->most)
-            t->out[t->found - 1] = t->here;
-    }
-}
-
-/* Takes the begin of each line of an open file, and closes it; returns 0, or -errno. The kernel escapes line feeds in names. */
-static long read_texts(int file, struct texts *t) {
-    char text[TEXT], line[LINE];
-    long length = 0, got = -1;
-    while (file >= 0 && (got = read(file, text, sizeof text)) > 0)
-        for (long i = 0; i < got; i++) {
-            if (text[i] == '\n') {
-                line[length] = 0;
-                take_line(t, line);
-                length = 0;
-            } else if (length < LINE - 1) {
-                line[length++] = text[i] ? text[i] : '?';
-            }
-        }
-    long error = got < 0 ? -errno : 0;
-    if (file >= 0) close(file);
-    return error;
-}
-
-/* Fills `out` with at most `most` locked VMAs of an open /proc/PID/smaps. Returns how many there are in all, or -errno. */
+/* Fills `out` with at most `most` locked VMAs of an open /proc/PID/smaps, ascending, adjacent ones joined. Returns how many there are
+ * in all, or -errno. A line counts by its begin; the kernel escapes line feeds in names. */
 long find_locked(int file, struct span *out, long most) {
-    struct texts t = { .out = out, .most = most };
-    long error = read_texts(dup(file), &t);
-    return error ? error : t.found;
+    char text[TEXT], line[LINE];
+    struct span here = { 0 }, range;
+    long length = 0, found = 0, got;
+    while ((got = read(file, text, sizeof text)) > 0)
+        for (long i = 0; i < got; i++) {
+            char space;
+            if (text[i] != '\n') {
+                if (length < LINE - 3) line[length++] = text[i] ? text[i] : '?';
+                continue;
+            }
+            memcpy(line + length, " ", 2); /* so that each word ends in a space */
+            length = 0;
+            if (sscanf(line, "%lx-%lx%c", &range.low, &range.high, &space) == 3 && space == ' ' && range.low < range.high)
+                here = range;
+            if (strncmp(line, "VmFlags:", 8) || !strstr(line, " lo ")) continue;
+            if (found && found <= most && out[found - 1].high == here.low) out[found - 1].high = here.high;
+            else if (found++ < most) out[found - 1] = here;
+        }
+    return got < 0 ? -errno : found;
 }
-
-/* A huge page: where its content is, its subpages, which of them were read, and which are zero-filled. */
-struct content {
-    uint64_t address, count, read[BLOCK / 64], zero[BLOCK / 64];
-};
 
 /* What a worker has in common with who started it. */
 struct room {
     struct piece *pieces;
     struct span *spans;
-    known *known;
+    uint8_t *known;
     int64_t most_pieces, most_spans;
     struct tables tables;
 };
 
-enum { WALK, TABLES };
+enum { WALK, FIND_TABLES };
 struct request { int32_t what, thread, process, with_small; int64_t most, count; };
-struct reply { int64_t found, lost, small, others, changed, spans; };
+struct reply { int64_t found, lost, small, changed, spans; };
 
-/* Where the highest page table is of the process whose /proc/PID/maps is open; 0 where there is none. */
-static uint64_t find_table(const struct room *room, int maps) {
-    struct table_request request = { .at = (uint64_t)maps };
-    return run_program(room->tables.find, &request, sizeof request) ? request.at - room->tables.map : 0;
+/* Where the highest page table is of the process whose /proc/PID/maps is open, 0 where there is none; and its locked base pages. */
+static uint64_t find_table(const struct room *room, int maps, uint64_t *locked) {
+    struct thp_request request = { .at = (uint64_t)maps };
+    if (!run_program(room->tables.find, &request)) return 0;
+    *locked = request.length;
+    return request.at - room->tables.map;
 }
 
 /* Reads how a process maps huge pages: `found` pieces, or -errno. Counts pieces that had no room, pages below PMD size that
- * weren't asked for, anonymous base pages beside huge ones, and base pages whose flags don't fit their page table. Then its
- * locked areas. With `count` pieces, which are the last ones of the room: only where these are. */
+ * weren't asked for, and base pages whose flags don't fit their page table. Then its locked areas. With `count` pieces, which are
+ * the last ones of the room: only where these are. */
 static struct reply walk(const struct room *room, int flags_file, const struct request *q) {
     struct walk w = { .known = q->count ? NULL : room->known, .tables = &room->tables, .flags_file = flags_file,
                       .process = q->process, .with_small = q->with_small, .out = room->pieces, .block = ~0ul, .order = -1,
                       .most = q->count ? room->most_pieces - q->count : q->most };
-    int maps = open_file(q->thread, "maps"); /* open, its page table is no other process's */
+    int maps = open_file(q->thread, "maps"), smaps = -1; /* open, its page table is no other process's */
     if (maps < 0) return (struct reply){ .found = -errno };
-    uint64_t table = find_table(room, maps);
+    uint64_t locked, table = find_table(room, maps, &locked);
     if (table && q->count) walk_again(&w, table, room->pieces + w.most, q->count);
     else if (table) walk_table(&w, table, (int)room->tables.levels - 1, 0, 0, ~0ul);
     close(maps);
-    struct reply out = { table ? w.found : -ESRCH, w.lost, w.small, 0, w.changed, 0 };
-    if (!table || q->count) return out;
-    struct texts t = { .out = room->spans, .most = room->most_spans };
-    out.spans = read_texts(open_file(q->thread, "status"), &t);
-    out.others = t.anonymous / BASE;
-    for (long i = 0; i < w.found; i++)
-        for (int j = 0; j < BLOCK / 64; j++) out.others -= __builtin_popcountl(w.out[i].set[j]);
-    if (out.others < 0) out.others = 0; /* the kernel's count lags behind */
-    if (out.found && !out.spans && t.locked) {
-        out.spans = read_texts(open_file(q->thread, "smaps"), &t);
-        if (!out.spans) out.spans = t.found;
-    }
+    struct reply out = { table ? w.found : -ESRCH, w.lost, w.small, w.changed, 0 };
+    if (!table || q->count || !w.found || !locked) return out;
+    out.spans = (smaps = open_file(q->thread, "smaps")) < 0 ? -errno : find_locked(smaps, room->spans, room->most_spans);
+    if (smaps >= 0) close(smaps);
     return out;
 }
 
 /* Replaces each of `count` threads by where its highest page table is: threads that share an address space have the same. */
 static struct reply find_tables(const struct room *room, const struct request *q) {
-    uint64_t *all = (uint64_t *)room->pieces;
+    uint64_t *all = (uint64_t *)room->pieces, locked;
     for (long i = 0; i < q->count; i++) {
         int maps = open_file((int)all[i], "maps");
-        all[i] = maps < 0 ? 0 : find_table(room, maps);
+        all[i] = maps < 0 ? 0 : find_table(room, maps, &locked);
         if (maps >= 0) close(maps);
     }
     return (struct reply){ .found = q->count };
@@ -379,37 +323,4 @@ int start_worker(struct room *room, int flags_file, int *ends) {
     ends[2] = (int)child;
     if (child < 0) close(sockets[0]);
     return child < 0 ? (int)-error : 0;
-}
-
-struct scan {
-    int program;
-    struct content *pages;
-    long count, next;
-};
-
-/* Fills in what is zero-filled in one page, and what was read: all, or nothing. */
-static void scan_page(int program, struct content *page) {
-    for (uint64_t done = 0; done < page->count && done < BLOCK; done += WORD) {
-        uint64_t left = page->count - done;
-        uint64_t context[4] = { page->address + done * BASE, left < WORD ? left : WORD };
-        if (!run_program(program, context, sizeof context)) { memset(page->read, 0, sizeof page->read); return; }
-        page->zero[done / WORD] = context[2];
-        page->read[done / WORD] = left < WORD ? (1ul << left) - 1 : ~0ul;
-    }
-}
-
-static void *scan_some(void *argument) {
-    struct scan *s = argument;
-    for (long i; (i = __atomic_fetch_add(&s->next, 1, __ATOMIC_RELAXED)) < s->count;) scan_page(s->program, &s->pages[i]);
-    return NULL;
-}
-
-/* Fills in what is zero-filled in many pages, by the BPF program of linux/kernel/memory.bpf.c, in so many threads. */
-void scan_frames(int program, struct content *pages, long count, int threads) {
-    struct scan s = { .program = program, .pages = pages, .count = count };
-    pthread_t others[MOST_THREADS];
-    int begun = 0;
-    while (begun < threads - 1 && begun < MOST_THREADS && !pthread_create(&others[begun], NULL, scan_some, &s)) begun++;
-    scan_some(&s);
-    while (begun) pthread_join(others[--begun], NULL);
 }

@@ -19,7 +19,7 @@ from .text import escape, lines
 
 ROOT = "/proc"  # tests put another folder here
 CAPABILITIES = {"CAP_SYS_PTRACE": 19, "CAP_SYS_ADMIN": 21, "CAP_PERFMON": 38, "CAP_BPF": 39}
-FLAGS, SIZE, RESIDENT, FIELDS = 6, 20, 21, 49  # places of fields of /proc/PID/stat after the name, and how many there are
+FLAGS, SIZE, FIELDS = 6, 20, 49  # places of fields of /proc/PID/stat after the name, and how many there are
 FOLDER = os.O_RDONLY | os.O_DIRECTORY | os.O_NOFOLLOW | os.O_CLOEXEC
 KERNFS_HANDLE = 0xFE  # include/linux/exportfs.h: FILEID_KERNFS
 
@@ -68,7 +68,7 @@ def stat_fields(process: int) -> list[bytes]:
         fields = read_file(process, "stat").rpartition(b")")[2].split()
     except ENDED:
         return []
-    if len(fields) < FIELDS or not all(fields[place].isdigit() for place in (FLAGS, SIZE, RESIDENT)):
+    if len(fields) < FIELDS or not all(fields[place].isdigit() for place in (FLAGS, SIZE)):
         raise Unreadable("its stat doesn't have the kernel's form")
     return fields
 

@@ -9,10 +9,9 @@ import signal
 import subprocess
 from collections.abc import Sequence
 from contextlib import suppress
-from dataclasses import dataclass
 from functools import lru_cache
 from pathlib import Path
-from typing import IO, Union
+from typing import IO, NamedTuple, Union
 
 from .errors import InputFault, RunFailed, Unavailable, signals_wait
 from .files import read_input
@@ -31,32 +30,25 @@ class TextError(InputFault):
     """The program rejects a text; the message has the line and the word of the error."""
 
 
-@dataclass(frozen=True)
-class Verdict:
-    """The result of a check of a journal: legal, illegal at a line (from 1), or an error of the text. `why`: lines that
-    explain an illegal one, where the check has such."""
+class Verdict(NamedTuple):
+    """The result of a check of a journal: legal, illegal at a line (from 1), or an error of the text."""
 
     legal: bool
     line: int | None
     text: str
-    why: str = ""
+    why: str = ""  # lines that explain an illegal one, where the check has such
 
 
 def find(name: str, built: Path, given: str | None = None) -> str | None:
     """Returns the program of a name: the path given, the one that the environment names ($THPSPLIT, $THPCHECK), the one
     built in this repository or installed beside the tools, or the one on the path. None: there is none. Unavailable
     where one that is named isn't there."""
-    for path in (given, os.environ.get(name.upper())):
-        if path:
-            found = shutil.which(path)
-            if not found:
-                raise Unavailable(f"no program {escape(path)}")
-            return os.path.abspath(found)
+    named = given or os.environ.get(name.upper())
     beside = [HERE.parents[3] / "bin" / name] if HERE.parts[-4:] == INSTALLED else []
-    for place in (built, *beside):
-        if os.access(place, os.X_OK) and place.is_file():
-            return str(place)
-    found = shutil.which(name)
+    places: list[str] = [named] if named else [str(place) for place in (built, *beside)] + [name]
+    found = next((path for path in (shutil.which(place) for place in places) if path), None)
+    if named and not found:
+        raise Unavailable(f"no program {escape(named)}")
     return os.path.abspath(found) if found else None
 
 
@@ -123,16 +115,17 @@ def empty_folder() -> str:
 
 def call(path: str, options: Sequence[str], given: str | int) -> subprocess.CompletedProcess[str]:
     """Runs a program on a text or an open file, from its start, and returns what it wrote."""
-    if isinstance(given, int):
-        os.lseek(given, 0, os.SEEK_SET)
-    child = start(path, options, given if isinstance(given, int) else subprocess.PIPE, subprocess.PIPE, subprocess.PIPE)
+    stdin, text = (given, None) if isinstance(given, int) else (subprocess.PIPE, given.encode("utf-8", "surrogateescape"))
+    if text is None:
+        os.lseek(stdin, 0, os.SEEK_SET)
+    child = start(path, options, stdin, subprocess.PIPE, subprocess.PIPE)
     try:
-        out, problems = child.communicate(None if isinstance(given, int) else given.encode("utf-8", "surrogateescape"))
+        out, problems = child.communicate(text)
     except BaseException:
         child.kill()
         child.wait()
         raise
-    texts = [each.decode("utf-8", "surrogateescape") for each in (out, problems)]
+    texts = (each.decode("utf-8", "surrogateescape") for each in (out, problems))
     return subprocess.CompletedProcess([path, *options], child.returncode, *texts)
 
 

@@ -6,24 +6,25 @@ kpagecount and kpagecgroup. second_look.py reads again what has changed meanwhil
 
 from __future__ import annotations
 
-import ctypes
 import os
 import time
 from array import array
 from bisect import bisect_right
 from collections import Counter, defaultdict, deque
-from contextlib import contextmanager
+from contextlib import contextmanager, suppress
+from threading import Thread
 from typing import Callable, Deque, Iterable, Iterator, Sequence
 
 from . import proc
+from .errors import Unavailable
 from .files import BASE
 from .folios import Folio, Mapping, compact_counts
 from .kernel_memory import KernelMemory
 from .page_files import NumberFile, PageFlag, TooShort
 from .proc import Unreadable, describe
 from .spaces import Space, find_spaces
-from .subpages import bits_of
-from .workers import CONTENT, MOST_SPANS, PIECE, Answer, Request, Workers, load_library
+from .subpages import bits_of, size
+from .workers import MOST_SPANS, PIECE, Answer, Request, Workers
 
 Progress = Callable[[str, int, int], None]  # what is done, how many of how many
 Look = Callable[[list[Folio]], list[Folio]]  # fills in what kernel memory has of pages; returns those that are no longer in use
@@ -68,7 +69,7 @@ class Reader:
         memory: int = MEMORY,
         look: Look = lambda folios: [],
     ) -> None:
-        self._kernel, self._program, self._look = kernel, kernel.program("find_zeros"), look
+        self._kernel, self._look = kernel, look
         self._threads, self._progress = threads or min(4, os.cpu_count() or 1), progress
         self._memory, self._used = memory << 20, 0
         self._files = [NumberFile(f"/proc/kpage{name}") for name in ("flags", "count")]
@@ -144,14 +145,16 @@ class Reader:
         lost = answer.lost + (len(answer.data) - len(pieces)) // PIECE.size
         if answer.locked:
             self._locked[process] = Spans(answer.locked)
+        mapped = 0
         for piece in PIECE.iter_unpack(pieces):
             self.take(*piece)
             self.by_pmd += piece[5]
+            mapped += size(int.from_bytes(piece[7], "little"))
         if pieces:
             self.walked[process] = pieces
         self._used += len(pieces) // PIECE.size * PIECE_COST + len(answer.locked)
         self._workers.most = max(0, left - len(pieces) // PIECE.size)
-        self.others += answer.others
+        self.others += max(0, self.spaces[process].thread.pages - mapped)
         beyond = f"parts of huge pages beyond the limit of memory (--memory {self._memory >> 20})"
         self.is_limited |= lost > 0
         self.left_out += Counter({PARTS_MOVED: answer.changed, SMALL: answer.small})
@@ -200,18 +203,30 @@ class Reader:
     def read_contents(self, folios: list[Folio]) -> None:
         """Reads which subpages are zero-filled, by the kernel's own map of memory, in threads: whole, whoever maps the page, and
         it counts as no access. What can't be read isn't `known`."""
+
+        problems: list[Unavailable] = []
+
+        def read_some(place: int) -> None:
+            try:
+                for folio in todo:  # each is another thread's, or this one's
+                    zero = self._kernel.zeros(folio.frame, folio.size, place)
+                    folio.zero, folio.known = zero or 0, 0 if zero is None else folio.full
+            except Unavailable as error:
+                problems.append(error)
+
         with self.timed("content"):
             for first in range(0, len(folios), BATCH):
-                batch = folios[first : first + BATCH]
-                pages = (CONTENT.pack(self._kernel.content_of(folio.frame), folio.size, b"", b"") for folio in batch)
-                raw = bytearray().join(pages)
-                room = (ctypes.c_char * len(raw)).from_buffer(raw)
-                load_library().scan_frames(self._program, ctypes.addressof(room), len(batch), self._threads)
-                for folio, (_, _, read, zero) in zip(batch, CONTENT.iter_unpack(raw)):
-                    known = int.from_bytes(read, "little")
-                    folio.known = folio.full if known == folio.full else known  # one object for all pages
-                    folio.zero = int.from_bytes(zero, "little") & known
-                self._progress("reading content", first + len(batch), len(folios))
+                todo = iter(folios[first : first + BATCH])
+                threads = [Thread(target=read_some, args=(place,)) for place in range(1, self._threads)]
+                with suppress(RuntimeError):  # as many as the machine allows
+                    for thread in threads:
+                        thread.start()
+                read_some(0)
+                for thread in filter(Thread.is_alive, threads):
+                    thread.join()
+                if problems:
+                    raise problems[0]
+                self._progress("reading content", min(first + BATCH, len(folios)), len(folios))
 
     def keep_locked(self, folios: Iterable[Folio]) -> None:
         """Finds which subpages of pages locked areas keep."""

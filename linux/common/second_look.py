@@ -8,6 +8,7 @@ from __future__ import annotations
 
 from collections import deque
 from dataclasses import dataclass, replace
+from typing import Any, Tuple
 
 from .folios import Folio, Mapping
 from .reader import FREED, Reader
@@ -17,6 +18,7 @@ MOVED = "huge pages that changed while they were read"
 SAMPLE = 64  # huge pages whose content is read twice
 MOST_AGAIN = 1 << 16  # huge pages that are read a second time
 BATCH = 1024  # huge pages that are compared at a time
+Piece = Tuple[Any, ...]
 COMPARED = ("totals", "whole", "is_queued", "is_partly", "cgroup")  # by `_count`
 
 
@@ -63,27 +65,26 @@ class SecondLook:
         for request, answer in reader.answers(todo):
             missing.discard(request.process)
             if answer.data != reader.walked[request.process]:
-                self._compare(split(reader.walked[request.process]), split(answer.data), request.process)
-        for piece in (piece for process in missing for piece in split(reader.walked[process])):
-            hidden = reader.folios.get(frame_of(piece))
-            if hidden:  # its process can't be read any more
-                self._leave_out(hidden, MOVED)
+                self._compare(pieces_of(reader.walked[request.process]), pieces_of(answer.data), request.process)
+        for _, frame, *_ in (piece for process in missing for piece in pieces_of(reader.walked[process])):
+            if frame in reader.folios:  # its process can't be read any more
+                self._leave_out(reader.folios[frame], MOVED)
         for frame in [folio.frame for folio in reader.folios.values() if not folio.mappings]:
             del reader.folios[frame]
 
-    def _compare(self, before: list[bytes], now: list[bytes], process: int) -> None:
+    def _compare(self, before: list[Piece], now: list[Piece], process: int) -> None:
         """Has the pages that a process maps otherwise be as they are mapped now."""
         folios, old = self._reader.folios, set(before)
         differing = old.difference(now) if self._reader.is_limited else old.symmetric_difference(now)
-        frames = {frame_of(piece) for piece in differing}
+        frames = {frame for _, frame, *_ in differing}
         for frame in frames:
             folio = folios.get(frame)
             self._first.setdefault(frame, folio)
             if folio:
                 folios[frame] = blank(folio, [mapping for mapping in folio.mappings if mapping.process != process])
         for piece in now:
-            if frame_of(piece) in frames:
-                self._reader.take(*PIECE.unpack(piece))
+            if piece[1] in frames:
+                self._reader.take(*piece)
 
     def _count(self) -> None:
         """Finds which map counts, and queue states, differ; reads those of pages that are mapped otherwise."""
@@ -114,9 +115,7 @@ class SecondLook:
 
 def blank(folio: Folio, mappings: list[Mapping]) -> Folio:
     """Returns a page as before anything but its mappings is read."""
-    return replace(
-        folio, mappings=mappings, totals=(), zero=0, known=0, is_queued=None, is_partly=None, whole=None, pins=None
-    )
+    return replace(folio, mappings=mappings, totals=(), zero=0, known=0, is_queued=None, is_partly=None, whole=None, pins=None)
 
 
 def reconcile(folio: Folio) -> bool:
@@ -130,11 +129,6 @@ def reconcile(folio: Folio) -> bool:
     return bool(folio.mappings)
 
 
-def split(pieces: bytes) -> list[bytes]:
-    """Returns pieces one by one."""
-    return [pieces[at : at + PIECE.size] for at in range(0, len(pieces), PIECE.size)]
-
-
-def frame_of(piece: bytes) -> int:
-    """Returns the first frame of a piece's page."""
-    return int.from_bytes(piece[8:16], "little")
+def pieces_of(data: bytes) -> list[Piece]:
+    """Returns pieces (struct piece of pages.c) one by one."""
+    return list(PIECE.iter_unpack(data))

@@ -14,12 +14,11 @@ from dataclasses import dataclass
 from typing import Iterable, NamedTuple
 
 from . import proc
-from .proc import ENDED, FLAGS, RESIDENT, SIZE, Unreadable, stat_fields
+from .proc import ENDED, FLAGS, SIZE, Unreadable, stat_fields
 from .workers import FIND_TABLES, SECONDS, WALK, Request, Workers
 
 KTHREAD = 0x200000  # include/linux/sched.h: PF_KTHREAD, a thread of the kernel
-MANY = 1 << 18  # base pages, a GiB
-SECONDS_A_PAGE = 0.1 / MANY  # that a walk may take longer
+SECONDS_A_PAGE = 0.1 / (1 << 18)  # that a walk may take longer
 SECONDS_A_PROCESS = 1e-4  # that a search for its page table may take longer
 TRIES = 3  # threads of an address space that end while it is read
 
@@ -28,7 +27,7 @@ class Thread(NamedTuple):
     """A thread that lives, of a process with memory."""
 
     number: int
-    pages: int  # base pages in memory
+    pages: int  # anonymous base pages in memory
     key: tuple[bytes, ...]  # where code, data, stack and arguments are: alike wherever an address space is shared
 
 
@@ -61,22 +60,20 @@ def live_thread(process: int) -> Thread | None:
     if not fields or fields[SIZE] != b"0" or int(fields[FLAGS]) & KTHREAD:
         return thread_of(process, fields)
     try:
-        tasks = os.listdir(f"{proc.ROOT}/{process}/task")
+        tasks = map(int, os.listdir(f"{proc.ROOT}/{process}/task"))
     except ENDED:
         return None
-    return next(filter(None, (thread_of(int(task), stat_fields(int(task))) for task in tasks)), None)
+    return next(filter(None, (thread_of(task, stat_fields(task)) for task in tasks)), None)
 
 
 def thread_of(number: int, fields: list[bytes]) -> Thread | None:
     """Returns a thread, given its fields; None where it has no memory."""
     if not fields or fields[SIZE] == b"0":
         return None
-    pages = int(fields[RESIDENT])
-    if pages > MANY:
-        with suppress(*ENDED):  # it ended
-            resident, shared = proc.read_file(number, "statm").split()[1:3]
-            pages = int(resident) - int(shared)
-    return Thread(number, max(0, pages), (*fields[23:26], *fields[42:49]))
+    resident = shared = b"0"
+    with suppress(*ENDED):  # it ended
+        resident, shared = proc.read_file(number, "statm").split()[1:3]
+    return Thread(number, max(0, int(resident) - int(shared)), (*fields[23:26], *fields[42:49]))
 
 
 def find_spaces(processes: Iterable[int], workers: Workers, unread: Counter[str]) -> list[Space]:

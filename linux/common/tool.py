@@ -8,7 +8,7 @@ import signal
 import sys
 from typing import Callable, NoReturn
 
-from .errors import end_by_signals, status_of
+from .errors import status_of
 from .keeper import recover
 
 PR_SET_DUMPABLE = 4  # include/uapi/linux/prctl.h
@@ -31,6 +31,17 @@ def write_nothing_more() -> None:
     os.dup2(os.open(os.devnull, os.O_WRONLY), sys.stdout.fileno())
 
 
+def end_by_signals() -> None:
+    """Has SIGINT, SIGTERM and SIGHUP end the tool as an exception does; one that the caller ignores (nohup) stays ignored."""
+
+    def stop(number: int, _frame: object) -> NoReturn:
+        raise SystemExit(128 + number)
+
+    for number, action in ((signal.SIGINT, signal.default_int_handler), (signal.SIGTERM, stop), (signal.SIGHUP, stop)):
+        if signal.getsignal(number) != signal.SIG_IGN:
+            signal.signal(number, action)
+
+
 def run_tool(name: str, main: Callable[[], int], on_error: int | None = None) -> NoReturn:
     """Runs a tool's main function and ends with its status. Every error is one line on standard error: 77 where the
     machine lacks something, 2 for words and texts, 75 where another tool runs, 3 for the rest. What an earlier run left that
@@ -43,9 +54,7 @@ def run_tool(name: str, main: Callable[[], int], on_error: int | None = None) ->
     open_standard_streams()
     if os.geteuid() == 0:  # no core file: it may have read other users' memory
         ctypes.CDLL(None).prctl(PR_SET_DUMPABLE, 0, 0, 0, 0)
-    if signal.getsignal(signal.SIGINT) == signal.SIG_DFL:  # until here it ends the tool at once; a shell's background job ignores it
-        signal.signal(signal.SIGINT, signal.default_int_handler)
-    end_by_signals()
+    end_by_signals()  # until here SIGINT ends the tool at once
     try:
         for line in recover(name):
             print(f"{name}: {line}", file=sys.stderr, flush=True)

@@ -18,7 +18,6 @@ from .errors import InputFault, Unavailable
 from .files import read
 from .text import escape, text_lines
 
-NOBODY = 65534  # of Debian's base-passwd: many programs run as this user, so no program of these tools does
 UNUSED = range(0x78000000, 0x7FFE0000)  # above SSSD's and shadow's numbers, below systemd's foreign ones
 TRIES = 100
 PR_SET_NO_NEW_PRIVS = 38  # include/uapi/linux/prctl.h
@@ -63,16 +62,12 @@ class User:
 def user_for(name: str | None) -> User:
     """Returns the user of a name or number; without one, the caller of `sudo`, or the caller. InputFault where there is
     no such user, Unavailable where the caller may not run programs as another user."""
-    given = name if name is not None else os.environ.get("SUDO_UID") if os.geteuid() == 0 else None
+    behind = os.environ.get("SUDO_UID") if os.geteuid() == 0 else None
+    given = next(each for each in (name, behind, str(os.geteuid())) if each is not None)
     try:
-        if given is None:
-            found = pwd.getpwuid(os.geteuid())
-        elif re.fullmatch(r"[0-9]{1,9}", given):
-            found = pwd.getpwuid(int(given))
-        else:
-            found = pwd.getpwnam(given)
+        found = pwd.getpwuid(int(given)) if re.fullmatch(r"[0-9]{1,9}", given) else pwd.getpwnam(given)
     except (KeyError, ValueError) as error:
-        raise InputFault(f"no user {escape(given or str(os.geteuid()))[:40]}") from error
+        raise InputFault(f"no user {escape(given)[:40]}") from error
     if os.geteuid() not in (0, found.pw_uid):
         raise Unavailable(f"not root: programs can't be run as {found.pw_name}")
     groups = os.getgrouplist(found.pw_name, found.pw_gid)
@@ -88,15 +83,15 @@ def user_without_rights() -> User:
     maps = [[map(int, line.split()) for line in text_lines(read(f"/proc/self/{kind}_map"))] for kind in ("uid", "gid")]
     high = min(UNUSED.stop, *(max(first + count for first, _, count in each) for each in maps))
     low = max(high - len(UNUSED), high // 2)  # a user namespace may have few numbers
-    used = _numbers_of_processes()
+    used = numbers_of_processes()
     for _ in range(TRIES):
         number = low + int.from_bytes(os.urandom(8), "little") % (high - low)
-        if number not in used and not _has_account(number):
+        if number not in used and not has_account(number):
             return User(number, number, [], "", "/")
     raise Unavailable("no number of a user is unused here")
 
 
-def _numbers_of_processes() -> set[int]:
+def numbers_of_processes() -> set[int]:
     """Returns the numbers of users and groups that processes have."""
     found: set[int] = set()
     for path in glob.iglob("/proc/[0-9]*/status"):
@@ -106,7 +101,8 @@ def _numbers_of_processes() -> set[int]:
     return found
 
 
-def _has_account(number: int) -> bool:
+def has_account(number: int) -> bool:
+    """Returns whether a user or group has this number."""
     for find in (pwd.getpwuid, grp.getgrgid):
         with suppress(KeyError):
             find(number)

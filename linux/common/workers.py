@@ -24,19 +24,18 @@ from .kernel_library import TABLES
 from .proc import ROOT
 
 SECONDS = 2.0  # that a worker may wait
-WORKED, PATIENCE = 0.01, 5  # part of that time in which it ran, if it doesn't wait, and how often it then may go on
+PATIENCE = 5  # how often one that runs may go on: a large process, or a busy machine
 LEAST = 0.1  # seconds, for a user who made the tool wait often
 SLOW = 0.1  # seconds after which a reading counts as waiting: another worker then goes on beside it
 MOST_WORKERS = TABLES
 MOST_SPANS = 1 << 18  # locked areas of a process
 MAP_NORESERVE = 0x4000
 LEAST_ROOM = 1 << 24  # bytes for pieces and what else is read
-KNOWN = 8 << 18  # bytes that pages.c has for blocks of frames
+KNOWN = 1 << 25  # bytes that pages.c has for blocks of frames
 WALK, FIND_TABLES = range(2)  # what a request asks for
 
 PIECE = struct.Struct("<QQQIIII64s")  # struct piece of pages.c
-CONTENT = struct.Struct("<QQ64s64s")  # struct content
-REQUEST, REPLY = struct.Struct("<iiiiqq"), struct.Struct("<6q")
+REQUEST, REPLY = struct.Struct("<iiiiqq"), struct.Struct("<5q")
 UNITS = PIECE.size, 8  # bytes of what a request has, and an answer has `found` of
 
 
@@ -44,10 +43,7 @@ UNITS = PIECE.size, 8  # bytes of what a request has, and an answer has `found` 
 def load_library() -> ctypes.CDLL:
     """Loads the C helper. Unavailable where it isn't built."""
     library = ctypes.CDLL(helper("pages.so"))
-    number, long, pointer = ctypes.c_int, ctypes.c_long, ctypes.c_void_p
-    library.start_worker.argtypes = [pointer, number, pointer]
-    library.find_locked.argtypes, library.find_locked.restype = [number, pointer, long], long
-    library.scan_frames.argtypes = [number, pointer, long, number]
+    library.find_locked.argtypes, library.find_locked.restype = [ctypes.c_int, ctypes.c_void_p, ctypes.c_long], ctypes.c_long
     return library
 
 
@@ -73,7 +69,6 @@ class Answer(NamedTuple):
     found: int  # or an error's number below 0
     lost: int = 0
     small: int = 0
-    others: int = 0
     changed: int = 0
     spans: int = 0  # or an error's number below 0
     data: bytes = b""
@@ -84,7 +79,7 @@ class Worker:
     """One worker process. OSError where none can be started."""
 
     def __init__(self, flags: int, known: int, most: int, tables: tuple[int, ...], place: int) -> None:
-        self._most, self._size = most, max(most * PIECE.size, LEAST_ROOM)
+        self._most, self._size, self.place = most, max(most * PIECE.size, LEAST_ROOM), place
         self._memory, at = new_room(self._size + 16 * MOST_SPANS)
         words = struct.pack("<QQQqqiiQQqq", at, at + self._size, known, most, MOST_SPANS, *tables, place)
         ends = (ctypes.c_int * 3)()
@@ -92,10 +87,8 @@ class Worker:
         if error:
             raise OSError(-error, os.strerror(-error))
         self.socket, self._handle, self._number = ends
-        self.request, self.place = Request(0, WALK), place
+        self.request, self.limit = Request(0, WALK), 0.0  # seconds
         self.wake = self.until = self.last = 0.0  # from when on it counts as waiting, when it is killed if it does, when in any case
-        self.limit = 0.0  # seconds
-        self._ran: float | None = None  # seconds, when it began to count as waiting
         self.is_suspect = False  # another process of this user made the tool wait
 
     def begin(self, request: Request, with_small: bool, most: int) -> None:
@@ -103,37 +96,25 @@ class Worker:
         count = len(request.data) // UNITS[request.what]
         place = (self._most - count) * PIECE.size if request.what == WALK else 0
         self._memory[place : place + len(request.data)] = request.data
-        words = (request.what, request.thread, request.process, with_small, min(most, self._most), count)
         self.request, self.until = request, time.monotonic() + self.limit
-        self.last, self._ran = self.until + PATIENCE * self.limit, None
+        self.last = self.until + PATIENCE * self.limit
         with suppress(OSError):  # it was killed: `end` then finds no answer
-            os.write(self.socket, REQUEST.pack(*words))
+            os.write(self.socket, REQUEST.pack(request.what, request.thread, request.process, with_small, min(most, self._most), count))
 
-    def _run_time(self) -> float:
-        """Returns for how many seconds it has run; 0 where the kernel doesn't count that (SCHED_INFO)."""
-        try:
-            return int(read_bytes(f"/proc/{self._number}/schedstat").split()[0]) / 1e9
-        except (OSError, ValueError):
-            return 0.0
-
-    def watch(self, now: float) -> None:
-        """Notes for how long it has run, once it counts as waiting."""
-        if self._ran is None and now >= self.wake:
-            self._ran = self._run_time()
-
-    def has_worked(self, now: float) -> bool:
-        """Returns whether it worked instead of waiting, and may go on: a large process, or a busy machine."""
-        before, self._ran = self._ran, self._run_time()
+    def may_go_on(self, now: float) -> bool:
+        """Returns whether it runs instead of waiting, after its time is over; gives it more time then."""
         self.until = min(now + self.limit, self.last)
-        return before is not None and self._ran - before > self.limit * WORKED and now < self.until
+        with suppress(OSError):
+            state = read_bytes(f"/proc/{self._number}/stat").rpartition(b")")[2].split()[0]
+            return state == b"R" and now < self.until
+        return False
 
     def end(self) -> Answer | None:
         """Returns the answer; None where the worker was killed."""
         try:
-            numbers = REPLY.unpack(os.read(self.socket, REPLY.size))
+            answer = Answer(*REPLY.unpack(os.read(self.socket, REPLY.size)))
         except (OSError, struct.error):
             return None
-        answer = Answer(*numbers)
         data = self._memory[: max(0, answer.found) * UNITS[self.request.what]]
         locked = self._memory[self._size : self._size + 16 * max(0, min(answer.spans, MOST_SPANS))]
         return answer._replace(data=data, locked=locked)
@@ -175,10 +156,7 @@ class Workers:
             wake = min(each.wake if each.wake > now else each.until for each in self._busy.values())
             ready = [number for number, _ in self._poll.poll(max(0.0, wake - now) * 1000 + 1)]
             now = time.monotonic()
-            for worker in self._busy.values():
-                worker.watch(now)
-            waiting = [each for number, each in self._busy.items() if each.until < now and number not in ready]
-            late = [each for each in waiting if not each.has_worked(now)]
+            late = [each for number, each in self._busy.items() if each.until < now and number not in ready and not each.may_go_on(now)]
             for worker in late + [self._busy[number] for number in ready]:
                 request, answer = worker.request, None if worker in late else worker.end()
                 self._busy.pop(worker.socket)

@@ -35,7 +35,7 @@ typedef struct { int counter; } atomic_t;
 struct list_head { struct list_head *next, *prev; };
 
 /* address spaces, tasks, control groups */
-struct mm_struct { unsigned long brk; struct task_struct *owner; void *pgd; };
+struct mm_struct { unsigned long brk, locked_vm; struct task_struct *owner; void *pgd; };
 struct pt_regs { unsigned long orig_ax, di, si, dx, r10; };
 enum cgroup_subsys_id { memory_cgrp_id = 4 };
 struct kernfs_node { void *priv; };

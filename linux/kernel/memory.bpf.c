@@ -17,7 +17,7 @@ char LICENSE[] SEC("license") = "Dual MIT/GPL";
 
 struct thp_window window;
 
-enum { BASE = 4096, GIB = 1 << 30, FARTHEST = 1 << 14, MOST_ZEROS = 64 };
+enum { BASE = 4096, GIB = 1 << 30, FARTHEST = 1 << 14 };
 enum { GLANCE = 64, REST = 448 };	/* bytes of a base page that are read first, and then at a time: a program's stack is small */
 enum { FLAGS = 7 };			/* low bits of memcg_data (include/linux/memcontrol.h) */
 
@@ -171,7 +171,7 @@ int look_at_pages(struct thp_request *request)
 
 /* page tables of x86-64 (arch/x86/include/asm/pgtable_types.h) */
 
-enum { PRESENT = 1, LEAF = 1 << 7, TABLE_BITS = 9, ENTRIES = 1 << TABLE_BITS };
+enum { PRESENT = 1, LEAF = 1 << 7, TABLE_BITS = 9 };
 #define FRAME_BITS 0x000ffffffffff000ULL
 
 struct thp_search { __u64 table, address, content, base, levels, frame, found; };
@@ -222,7 +222,7 @@ int find_map(struct thp_request *request)
 	return search.found ? FINE : UNREADABLE;
 }
 
-/* The top page table of the process whose open /proc/PID/maps is `at`; the file keeps that table. */
+/* The top page table of the process whose open /proc/PID/maps is `at`, which the file keeps; `length`: base pages in locked areas. */
 SEC("syscall")
 int find_tables(struct thp_request *request)
 {
@@ -234,6 +234,7 @@ int find_tables(struct thp_request *request)
 	else
 		mm = READ(&((struct proc_maps_private___locking *)state)->lock_ctx.mm);
 	request->at = mm ? (__u64)READ(&mm->pgd) : 0;
+	request->length = READ(&mm->locked_vm);
 	return request->at ? FINE : UNREADABLE;
 }
 
@@ -266,28 +267,27 @@ static __always_inline int is_zero(__u64 *room, int size, __u64 at)
 	return !all;
 }
 
-static long look_for_zeros(__u32 index, struct thp_zeros *zeros)
+struct thp_look { __u64 address, place, failed; };
+
+static long look_for_zeros(__u32 index, struct thp_look *look)
 {
-	__u64 room[REST / 8], at = zeros->address + (__u64)index * BASE;
+	__u64 room[REST / 8], at = look->address + (__u64)index * BASE;
 	int zero = is_zero(room, GLANCE, at);
 
 	for (int place = GLANCE; place < BASE && zero > 0; place += REST)
 		zero = is_zero(room, REST, at + place);
-	if (zero < 0)
-		zeros->count = 0;	/* it can't be read */
-	zeros->zero |= (__u64)(zero > 0) << (index & 63);
+	look->failed = zero < 0;
+	window.zeros[look->place % TABLES][index / 64 % 8] |= (__u64)(zero > 0) << (index & 63);
 	return zero < 0;
 }
 
-/* Fills in which of `count` base pages from `address` on are zero-filled. linux/common/pages.c runs it in threads. */
+/* Fills in which of `length` base pages from `at` on are zero-filled, at place `found` of the window. */
 SEC("syscall")
-int find_zeros(struct thp_zeros *context)
+int find_zeros(struct thp_request *request)
 {
-	struct thp_zeros zeros = { .address = context->address, .count = context->count };
+	struct thp_look look = { .address = request->at, .place = request->found };
 
-	if (!zeros.count || zeros.count > MOST_ZEROS)
-		return UNREADABLE;
-	bpf_loop(zeros.count, look_for_zeros, &zeros, 0);
-	context->zero = zeros.zero;
-	return zeros.count ? FINE : UNREADABLE;
+	__builtin_memset(window.zeros[look.place % TABLES], 0, sizeof(window.zeros[0]));
+	bpf_loop(request->length, look_for_zeros, &look, 0);
+	return look.failed ? UNREADABLE : FINE;
 }

@@ -55,9 +55,7 @@ static __always_inline int begin_call(struct pt_regs *regs, long number)
 	if (!changes_mappings(number, regs))
 		return 0;
 	task = bpf_get_current_task_btf();
-	if (!is_own(task))
-		return 0;
-	state = state_of(task);
+	state = own_state(task);
 	if (!state)
 		return 0;
 	state->address = 0;
@@ -65,11 +63,9 @@ static __always_inline int begin_call(struct pt_regs *regs, long number)
 		return 0;
 	state->is_next = false;
 	state->has_entered = true;
-	if (number == MREMAP) {
-		space = space_of((__u64)task->mm);
-		if (space)
-			space->all = 1;	/* where the mapping goes isn't known yet */
-	}
+	space = space_of((__u64)task->mm);
+	if (space && number == MREMAP)
+		space->all = 1;	/* where the mapping goes isn't known yet */
 	return send(ENTER, task, VALUES(number, regs->di, regs->si, regs->dx, task->mm->brk));
 }
 
@@ -140,6 +136,7 @@ static __always_inline void add_counts(struct thp_record *record, long result)
 static __always_inline int end_call(struct pt_regs *regs, long result)
 {
 	long number = regs->orig_ax;
+	__u32 kind = EXIT;
 	struct thp_record *record;
 	struct task_struct *task;
 	struct thp_task *state;
@@ -147,9 +144,7 @@ static __always_inline int end_call(struct pt_regs *regs, long result)
 	if (!changes_mappings(number, regs))
 		return 0;
 	task = bpf_get_current_task_btf();
-	if (!is_own(task))
-		return 0;
-	state = state_of(task);
+	state = own_state(task);
 	if (!state)
 		return 0;
 	if (!state->has_entered) {
@@ -158,9 +153,10 @@ static __always_inline int end_call(struct pt_regs *regs, long result)
 		send(ENTER, task, VALUES(number, regs->di, regs->si, regs->dx, task->mm->brk));
 	}
 	state->has_entered = false;
-	record = begin_with_queue(EXIT, task, VALUES(number, regs->di, regs->si, regs->dx, result));
+	record = bpf_map_lookup_elem(&scratch, &kind);
 	if (!record)
 		return 0;
+	fill(record, kind, task, VALUES(number, regs->di, regs->si, regs->dx, result));
 	add_counts(record, result);
 	return add_queue(record);
 }
@@ -177,11 +173,8 @@ PAIR("tp_btf/sys_exit", on_exit, AT_EXIT, end_call(regs, result), struct pt_regs
 static __always_inline int on_fault(unsigned long address, unsigned long code)
 {
 	struct task_struct *task = bpf_get_current_task_btf();
-	struct thp_task *state;
+	struct thp_task *state = own_state(task);
 
-	if (!is_own(task))
-		return 0;
-	state = state_of(task);
 	if (!state)
 		return 0;
 	state->address = address;

@@ -140,6 +140,12 @@ static __always_inline bool is_own(struct task_struct *task)
 	return group_of(task) == settings.group || space_of((__u64)task->mm);
 }
 
+/* The same of a task whose pages can matter; 0: none. */
+static __always_inline struct thp_task *own_state(struct task_struct *task)
+{
+	return is_own(task) ? state_of(task) : 0;
+}
+
 /* Notes that an address space has a page at an address. */
 static __always_inline void add_page(__u64 mm, __u64 address)
 {
@@ -241,19 +247,13 @@ static __always_inline int add_queue(struct thp_record *record)
 	return lose();
 }
 
-static __always_inline struct thp_record *begin_with_queue(__u32 kind, struct task_struct *task, const __u64 *values)
+static __always_inline int send_with_queue(__u32 kind, struct task_struct *task, const __u64 *values)
 {
 	struct thp_record *record = bpf_map_lookup_elem(&scratch, &kind);
 
-	if (record)
-		fill(record, kind, task, values);
-	return record;
-}
-
-static __always_inline int send_with_queue(__u32 kind, struct task_struct *task, const __u64 *values)
-{
-	struct thp_record *record = begin_with_queue(kind, task, values);
-
-	return record ? add_queue(record) : 0;
+	if (!record)
+		return 0;
+	fill(record, kind, task, values);
+	return add_queue(record);
 }
 #endif

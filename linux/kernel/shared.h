@@ -41,7 +41,7 @@ struct thp_counters {
 /* readers of kernel memory */
 
 enum answer { FINE, CHANGED, NO_QUEUE, NO_FIELD, NO_NUMBER, UNREADABLE };
-enum { WINDOW = 1 << 16, STATES = 1024, NAME = 64, TABLES = 32 };
+enum { WINDOW = 1 << 16, STATES = 1024, NAME = 64, TABLES = 32, ENTRIES = 512 };
 
 /* What a run is given, and what it returns. */
 struct thp_request {
@@ -68,10 +68,8 @@ struct thp_window {
 	char lacking[NAME];			/* the field that a run needs and this kernel lacks */
 	struct thp_page_state states[STATES];
 	unsigned long long folios[WINDOW];	/* of a queue, oldest first */
-	unsigned long long tables[TABLES][512];	/* copies of page tables, one for each worker of linux/common/pages.c */
+	unsigned long long zeros[TABLES][8];	/* which of 512 base pages are zero-filled, for each thread of the caller */
+	unsigned long long tables[TABLES][ENTRIES];	/* copies of page tables, for each worker of linux/common/pages.c */
 };
-
-/* Which of at most 64 base pages from an address on are zero-filled: a run's context in linux/common/pages.c. */
-struct thp_zeros { unsigned long long address, count, zero, unused; };
 
 #endif

@@ -28,7 +28,7 @@ from linux.common import checker  # noqa: E402
 from linux.common.errors import SKIPPED, USAGE  # noqa: E402
 from linux.common.program import find  # noqa: E402
 from linux.tests.cases import Cases, Missing  # noqa: E402
-from linux.tests.ends import heed_interrupts  # noqa: E402
+from linux.tests.root_case import heed_interrupts  # noqa: E402
 
 WHATIF, RECORD = str(ROOT / "linux/whatif/thpwhatif"), str(ROOT / "linux/thprecord")
 PLAIN_CHECKER = str(ROOT / "linux/tests/plain_checker.py")

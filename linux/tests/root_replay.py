@@ -39,7 +39,6 @@ from linux.tests.plain_program import inject_bug  # noqa: E402
 
 HERE = Path(__file__).resolve().parent
 SCRIPT = str(ROOT / "examples/first.script")
-RUNS = 10  # beside an attacker
 TRIES = 20  # of a call that other programs make inconclusive, by moving the machine's counters
 HANGS = 600  # seconds after which a run of the tool hangs, however loaded the machine is
 CASE_SECONDS = 1800  # that a case gets
@@ -124,24 +123,6 @@ def named_sockets(processes: set[int]) -> list[str]:
             continue  # it has ended
         found += [names[link] for link in links if names.get(link)]
     return found
-
-
-def beside_attackers(tool: Tool) -> str | None:
-    """Nobody is killed, nothing is taken, and the runs are as without."""
-    with subprocess.Popen(["sleep", str(CASE_SECONDS)]) as victim:
-        try:
-            with attacker("sockets", str(victim.pid), str(CASE_SECONDS)) as output:
-                wait_until(output, HANGS)
-                for number in range(RUNS):
-                    status, out, problems = tool.decide(SCRIPT, *([] if number % 5 == 0 else ["--no-memory"]))
-                    if (status, outcomes(out)) != (DONE, ["agrees"]):
-                        return f"run {number}: status {status}, {problems!r} {out[-200:]!r}"
-                    if victim.poll() is not None:
-                        return f"run {number}: the victim has ended with status {victim.returncode}"
-                told = output()
-        finally:
-            victim.kill()
-    return None if told == b"ready\n" else f"the attacker was heard: {told[:200]!r}"
 
 
 def has_no_names(tool: Tool) -> str | None:
@@ -362,7 +343,6 @@ def main() -> int:
     program = os.path.abspath(sys.argv[1]) if len(sys.argv) > 1 else str(HERE / "plain_program.py")
     tool = Tool(program, sys.argv[2] if len(sys.argv) > 2 else str(ROOT / "linux/thpreplay"))
     cases = Cases("root_replay", CASE_SECONDS)
-    cases.run(f"{RUNS} runs beside an attacker of sockets", partial(beside_attackers, tool))
     cases.run("sockets without names, processes without rights", partial(has_no_names, tool))
     for pause in ("1000", "60000"):
         cases.run(f"8 scripts beside noise, pauses of {pause} us", partial(beside_noise, tool, pause))

@@ -37,7 +37,6 @@ from linux.common.folios import full_set  # noqa: E402
 from linux.common.groups import find_hierarchy  # noqa: E402
 from linux.common.kernel_memory import KernelMemory  # noqa: E402
 from linux.common.page_files import frames_at  # noqa: E402
-from linux.common.workers import CONTENT, load_library  # noqa: E402
 from linux.tests import look_cases  # noqa: E402
 from linux.tests.cases import Cases, Missing  # noqa: E402
 from linux.tests.whatif_calls import SECONDS, USER, Call, Pages  # noqa: E402
@@ -233,13 +232,10 @@ def check_content(pages: Pages) -> str | None:
     head = frames[0]
     if head is None or frames != list(range(head, head + size)):
         raise Missing("the kernel gave no huge page: memory is in pieces")
-    raw = bytearray().join(CONTENT.pack(at, size, b"", b"") for at in (kernel.content_of(head), 0))
-    load_library().scan_frames(kernel.program("find_zeros"), ctypes.addressof(ctypes.c_char.from_buffer(raw)), 2, 2)
-    (_, _, read, zero), (_, _, nothing, _) = CONTENT.iter_unpack(raw)
-    wanted = full_set(PMD_ORDER) & ~sum(1 << 33 * number for number in range(len(places)))
-    if read != b"\xff" * 64 or int.from_bytes(zero, "little") != wanted:
-        return f"zero-filled {int.from_bytes(zero, 'little'):x}, not {wanted:x}"
-    return "an address that can't be read isn't reported" if any(nothing) else None
+    zero, wanted = kernel.zeros(head, size), full_set(PMD_ORDER) & ~sum(1 << 33 * number for number in range(len(places)))
+    if zero != wanted:
+        return f"zero-filled {zero or 0:x}, not {wanted:x}"
+    return None if kernel.zeros(1 << 40, 1) is None else "an address that can't be read isn't reported"
 
 
 def check_memory(pages: Pages, gibibytes: int) -> str | None:

@@ -9,41 +9,36 @@ import subprocess
 import tempfile
 import unittest
 from pathlib import Path
-from typing import List, Union
 from unittest import mock
 
 from ..common import helpers, user
 from ..common.arguments import OneLineParser, seconds, whole
-from ..common.errors import FAILED, INCONCLUSIVE, USAGE, InputFault, RunFailed, Unavailable, status_of
+from ..common.errors import FAILED, USAGE, InputFault, RunFailed, Unavailable, status_of
 from ..common.files import NewFile, OwnFolder, read, read_input
 from ..common.groups import checked_group
 from ..common.program import start
 from ..common.text import escape, lines, text_lines
 
-ROOT = Path(__file__).resolve().parent.parent.parent
 ODD = ("\x0b", "\x0c", "\x1c", "\x1d", "\x1e", "\x85", "\u2028", "\u2029", "\r", "\x1b[2J", "\ud800", "\udcff", "\0")
+STATE = ("import os; print(os.getuid(), os.getgroups(), os.listdir('.'), sorted(os.environ), os.path.exists('/proc/self/fd/9'), "
+         "[each for each in open('/proc/self/status') if 'NoNewPrivs' in each])")
 
 
 class TextTest(unittest.TestCase):
     def test_nothing_but_printable_ascii_comes_out(self) -> None:
         chance = random.Random(1)
-        texts: List[Union[str, bytes]] = [*ODD, bytes(range(256)), "".join(ODD)]
-        texts += [bytes(chance.randrange(256) for _ in range(50)) for _ in range(100)]
+        texts: list[str | bytes] = [*ODD, bytes(range(256)), *(chance.randbytes(50) for _ in range(100))]
         for text in texts:
             self.assertRegex(escape(text), r"^[ -~]*$")
         self.assertEqual(escape("a\\b\nc\u2028"), r"a\\b\x0ac\xe2\x80\xa8")
-
-    def test_different_texts_are_escaped_differently(self) -> None:
-        texts = [bytes([first, second]) for first in range(256) for second in (92, 120, 10)]
-        self.assertEqual(len({escape(text) for text in texts}), len(texts))
+        pairs = [bytes([first, second]) for first in range(256) for second in (92, 120, 10)]
+        self.assertEqual(len({escape(text) for text in pairs}), len(pairs), "different texts are escaped differently")
 
     def test_lines_end_at_line_feeds_alone(self) -> None:
         for odd in ODD:
             self.assertEqual(text_lines(f"a{odd}b\nc\n"), [f"a{odd}b", "c"])
         self.assertEqual((lines(b"a\x0b\r\n\nb"), lines(b"")), ([b"a\x0b\r", b"", b"b"], []))
 
-
-class WordsTest(unittest.TestCase):
     def test_numbers_are_within_limits(self) -> None:
         parser = OneLineParser(prog="x", add_help=False)
         parser.add_argument("--count", type=whole(1, 9))
@@ -53,9 +48,17 @@ class WordsTest(unittest.TestCase):
         for option, texts in (("--count", ("0", "10", "1.0", "1e1", "", "x", "9" * 400, "\u0661", "-1", " 1", "\udcff")),
                               ("--time", ("nan", "inf", "-1", "1e1", "61", "", "9" * 400, "0x1", "1_0", "\u0661"))):
             for text in texts:
-                with self.assertRaises(InputFault) as caught:
-                    parser.parse_args([f"{option}={text}"])
-                self.assertRegex(str(caught.exception), r"^[ -~]{1,200}$")
+                self.assertRaisesRegex(InputFault, r"^[ -~]{1,200}$", parser.parse_args, [f"{option}={text}"])
+
+    def test_each_error_is_one_line_with_a_status(self) -> None:
+        errors = {RunFailed("x\ny"): FAILED, InputFault("\u2028"): USAGE, OSError(28, "full", "a\nb"): FAILED,
+                  ZeroDivisionError("z\n"): FAILED, MemoryError(): FAILED, RecursionError("deep"): FAILED,
+                  Unavailable("none"): 77, KeyboardInterrupt(): 130}
+        for error, status in errors.items():
+            with mock.patch("sys.stderr") as out:
+                self.assertEqual(status_of("tool", error), status)
+            internal = "internal error: .*" if isinstance(error, (ArithmeticError, RecursionError)) else ""
+            self.assertRegex("".join(each.args[0] for each in out.write.call_args_list), rf"^tool: {internal}[ -~]*\n$")
 
 
 class FilesTest(unittest.TestCase):
@@ -64,15 +67,10 @@ class FilesTest(unittest.TestCase):
         self.addCleanup(made.cleanup)
         self.folder = Path(made.name)
 
-    def test_a_new_file_is_its_owners_alone(self) -> None:
-        os.umask(os.umask(0))
-        new = NewFile(self.folder / "new")
-        new.file.write("text")
+    def test_a_new_file_is_its_owners_alone_and_no_other_is_written(self) -> None:
+        new, target = NewFile(self.folder / "new"), self.folder / "target"
         new.close()
         self.assertEqual(stat.S_IMODE((self.folder / "new").stat().st_mode), 0o600)
-
-    def test_what_exists_is_never_written(self) -> None:
-        target = self.folder / "target"
         target.write_text("precious")
         (self.folder / "link").symlink_to(target)
         (self.folder / "dangling").symlink_to(self.folder / "nothing")
@@ -84,56 +82,61 @@ class FilesTest(unittest.TestCase):
         self.assertEqual((target.read_text(), (self.folder / "nothing").exists()), ("precious", False))
 
     def test_a_folder_is_the_callers_own(self) -> None:
-        folder = OwnFolder(self.folder / "made")
+        folder, path = OwnFolder(self.folder / "made"), self.folder / "made"
         for text in ("one", "two"):  # an earlier file is replaced
             with folder.create("file") as file:
                 file.write(text)
-        self.assertEqual((self.folder / "made/file").read_text(), "two")
-        self.assertEqual(stat.S_IMODE((self.folder / "made").stat().st_mode), 0o700)
+        self.assertEqual(((path / "file").read_text(), stat.S_IMODE(path.stat().st_mode)), ("two", 0o700))
         for name in ("", ".", "..", "a/b", "../x"):
-            with self.assertRaises(InputFault):
-                folder.create(name)
+            self.assertRaises(InputFault, folder.create, name)
         folder.close()
-        os.chmod(self.folder / "made", 0o777)
+        path.chmod(0o777)
         (self.folder / "link").symlink_to(self.folder)
         for name in ("made", "link", "made/file", "no/where"):
             with self.assertRaises(InputFault, msg=name):
                 OwnFolder(self.folder / name)
 
     def test_inputs_are_regular_files_of_a_limited_size(self) -> None:
-        (self.folder / "text").write_bytes(b"a\r\nb\xff")
-        self.assertEqual(read_input(self.folder / "text"), b"a\r\nb\xff")
+        text = self.folder / "text"
+        text.write_bytes(b"a\r\nb\rc\xff")
+        self.assertEqual((read_input(text), read(text)), (b"a\r\nb\rc\xff", "a\r\nb\rc\udcff"))
         os.mkfifo(self.folder / "pipe")
         for path in map(str, (self.folder, self.folder / "pipe", self.folder / "none", "/dev/zero", "nul\0")):
             with self.assertRaises(InputFault, msg=path):
                 read_input(path)
-        with self.assertRaisesRegex(InputFault, "more than"):
-            read_input(self.folder / "text", 3)
-
-    def test_no_line_end_is_translated(self) -> None:
-        (self.folder / "text").write_bytes(b"a\r\nb\rc\xff")
-        self.assertEqual(read(self.folder / "text"), "a\r\nb\rc\udcff")
+        self.assertRaisesRegex(InputFault, "more than", read_input, text, 3)
 
     def test_a_folder_that_is_no_control_group(self) -> None:
         (self.folder / "cgroup.procs").write_text("1\n")
         for path in (str(self.folder), "/", "/proc/self", "nul\0", "", "/sys/fs/cgroup/../../../tmp"):
-            with self.assertRaisesRegex(InputFault, "is no control group"):
-                checked_group(path)
+            self.assertRaisesRegex(InputFault, "is no control group", checked_group, path)
+
+    def test_helpers(self) -> None:
+        """What isn't built is named with how to build it; only what nobody else can write is trusted."""
+        self.assertRaisesRegex(Unavailable, r"^nothing\.so isn't built: make -C .*linux builds it \(Debian: .*clang.*\)$",
+                               helpers.helper, "nothing.so")
+        path = self.folder / "out/helper"
+        path.parent.mkdir()
+        path.write_text("")
+        self.assertEqual((helpers.is_trusted(path, True), helpers.is_trusted(path, False)), (os.geteuid() == 0, True))
+        for each in (path, path.parent):
+            was = each.stat().st_mode & 0o777
+            each.chmod(0o777)
+            self.assertFalse(helpers.is_trusted(path, False) or helpers.is_trusted(path, True))
+            each.chmod(was)
+        path.unlink()
+        path.symlink_to("/bin/true")
+        self.assertFalse(helpers.is_trusted(path, False))
 
 
 class UserTest(unittest.TestCase):
     def test_an_unknown_user_is_named(self) -> None:
         for name in ("no-such-user", "4294967", "", "\udcff", "\0", "9" * 50):
-            with self.assertRaises(InputFault):
-                user.user_for(name)
+            self.assertRaises(InputFault, user.user_for, name)
 
     def test_programs_run_without_rights_in_an_empty_folder(self) -> None:
-        code = ("import os; print(os.getuid(), os.getgroups(), os.listdir('.'), sorted(os.environ), os.path.exists('/proc/self/fd/9'), "
-                "[each for each in open('/proc/self/status') if 'NoNewPrivs' in each or 'Max core' in each])")
-        child = start("/usr/bin/python3", ["-IS", "-c", code], stdout=subprocess.PIPE)
-        output, _ = child.communicate()
-        groups = os.getgroups() if os.geteuid() else []
-        files = os.listdir("/") if os.geteuid() else []
+        output = start("/usr/bin/python3", ["-IS", "-c", STATE], stdout=subprocess.PIPE).communicate()[0]
+        groups, files = (os.getgroups(), os.listdir("/")) if os.geteuid() else ([], [])
         number = user.user_without_rights().number
         self.assertEqual(output.decode().strip(), f"{number} {groups} {files} ['LC_ALL', 'PATH'] False ['NoNewPrivs:\\t1\\n']")
 
@@ -141,7 +144,7 @@ class UserTest(unittest.TestCase):
     def test_no_account_and_no_process_has_the_number_of_a_user_without_rights(self) -> None:
         found = user.user_without_rights()
         self.assertIn(found.number, user.UNUSED)
-        with subprocess.Popen(["sleep", "60"], user=found.number, group=found.group, extra_groups=[]) as other:
+        with subprocess.Popen(["sleep", "60"], **found.rights()) as other:
             user.user_without_rights.cache_clear()
             numbers = iter([0, 0, 5, 0])
             with mock.patch.object(os, "urandom", lambda _: (found.number - user.UNUSED.start + next(numbers)).to_bytes(8, "little")):
@@ -151,61 +154,16 @@ class UserTest(unittest.TestCase):
 
     @unittest.skipIf(os.geteuid(), "not root")
     def test_a_program_is_not_traced_by_another_process_of_its_user(self) -> None:
-        found = user.user_without_rights()
-        child = start("/bin/sleep", ["60"])
-        try:
-            code = f"import os\nfor name in ('mem', 'environ', 'fd'):\n    print(os.access('/proc/{child.pid}/' + name, os.R_OK))"
-            done = subprocess.run(["/usr/bin/python3", "-c", code], capture_output=True, text=True, check=False, user=found.number,
-                                  group=found.group, extra_groups=[])
-        finally:
+        with start("/bin/sleep", ["60"]) as child:
+            code = f"import os; print([os.access('/proc/{child.pid}/' + name, os.R_OK) for name in ('mem', 'environ', 'fd')])"
+            done = subprocess.run(["/usr/bin/python3", "-c", code], capture_output=True, check=False, **user.user_without_rights().rights())
             child.kill()
-            child.wait()
-        self.assertEqual(done.stdout, "False\n" * 3)
+        self.assertEqual(done.stdout, b"[False, False, False]\n")
 
+    @unittest.skipIf(os.geteuid(), "not root")
     def test_the_user_behind_sudo(self) -> None:
-        if os.geteuid():
-            self.skipTest("not root")
-        with mock.patch.dict(os.environ, {"SUDO_UID": str(user.NOBODY), "SUDO_COMMAND": "x"}):
+        with mock.patch.dict(os.environ, {"SUDO_UID": "65534", "SUDO_COMMAND": "x"}):
             found = user.user_for(None)
             self.assertEqual((found.name, found.is_caller), ("nobody", False))
             self.assertNotIn("SUDO_COMMAND", found.environment())
             self.assertEqual(found.environment()["USER"], "nobody")
-
-
-class HelperTest(unittest.TestCase):
-    def test_what_is_not_built_is_named_with_how_to_build_it(self) -> None:
-        with self.assertRaises(Unavailable) as caught:
-            helpers.helper("nothing.so")
-        self.assertRegex(str(caught.exception), r"^nothing\.so isn't built: make -C .*linux builds it \(Debian: .*clang.*\)$")
-
-    def test_only_what_nobody_else_can_write_is_trusted(self) -> None:
-        with tempfile.TemporaryDirectory() as name:
-            path = Path(name) / "out/helper"
-            path.parent.mkdir()
-            path.write_text("")
-            self.assertEqual((helpers.is_trusted(path, True), helpers.is_trusted(path, False)), (os.geteuid() == 0, True))
-            for each in (path, path.parent):
-                was = each.stat().st_mode & 0o777
-                each.chmod(0o777)
-                self.assertFalse(helpers.is_trusted(path, False) or helpers.is_trusted(path, True))
-                each.chmod(was)
-            path.unlink()
-            path.symlink_to("/bin/true")
-            self.assertFalse(helpers.is_trusted(path, False))
-
-
-class ErrorsTest(unittest.TestCase):
-    def test_each_error_is_one_line_with_a_status(self) -> None:
-        errors = {RunFailed("x\ny"): FAILED, InputFault("\u2028"): USAGE, OSError(28, "full", "a\nb"): FAILED,
-                  ZeroDivisionError("z\n"): FAILED, MemoryError(): FAILED, RecursionError("deep"): FAILED,
-                  Unavailable("none"): 77, KeyboardInterrupt(): 130}
-        for error, status in errors.items():
-            with mock.patch("sys.stderr") as out:
-                self.assertEqual(status_of("tool", error), status)
-            written = "".join(each.args[0] for each in out.write.call_args_list)
-            self.assertRegex(written, r"^tool: [ -~]*\n$")
-        self.assertEqual(INCONCLUSIVE, 4)
-
-
-if __name__ == "__main__":
-    unittest.main()

@@ -14,7 +14,7 @@ from ..common import kernel_library, kernel_memory, proc
 from ..record.options import parse_size
 from ..record.recorder import Taker, name_gaps
 
-KERNEL = Path(__file__).resolve().parent.parent / "kernel"
+KERNEL, PLACES = Path(__file__).resolve().parent.parent / "kernel", Path(__file__).with_name("queue_places.c")
 CO_RE = """libbpf: prog 'read_queue': BPF program load failed: Invalid argument
 0: <invalid CO-RE relocation>
 failed to resolve CO-RE relocation <byte_off> [25] struct fdtable.fd (0:0 @ offset 0)
@@ -22,16 +22,13 @@ failed to resolve CO-RE relocation <byte_off> [25] struct fdtable.fd (0:0 @ offs
 SIZE = "struct mem_cgroup.kmemcg_id has 4 bytes in this kernel, not 8"
 
 
-def build(source: Path) -> bytes:
-    """Builds the library from a copy of linux/, without a warning; returns its bytes."""
-    done = subprocess.run(["make", "-s", "-C", str(source), "out/thpkernel.so", "WARNINGS=-Wall -Wextra -Werror"],
-                          capture_output=True, text=True, check=False)
-    if done.returncode:
-        raise AssertionError(done.stderr[-2000:])
-    return (source / "out/thpkernel.so").read_bytes()
-
-
 class BuildTest(unittest.TestCase):
+    def run_checked(self, *words: str) -> str:
+        """Runs a program to its end, which has to be without a word on standard error; returns what it wrote."""
+        done = subprocess.run(words, capture_output=True, text=True, check=False)
+        self.assertEqual((done.returncode, done.stderr), (0, ""))
+        return done.stdout
+
     @unittest.skipUnless(shutil.which("clang") and shutil.which("bpftool"), "no clang or bpftool (make deps)")
     def test_two_folders_give_the_same_bytes_without_a_warning(self) -> None:
         with tempfile.TemporaryDirectory() as name:
@@ -39,16 +36,14 @@ class BuildTest(unittest.TestCase):
             for folder in folders:
                 shutil.copytree(KERNEL, folder / "kernel")
                 shutil.copy(KERNEL.parent / "Makefile", folder)
-            self.assertEqual(*map(build, folders))
+                self.run_checked("make", "-s", "-C", str(folder), "out/thpkernel.so", "WARNINGS=-Wall -Wextra -Werror")
+            self.assertEqual(*((folder / "out/thpkernel.so").read_bytes() for folder in folders))
 
     @unittest.skipUnless(shutil.which("cc"), "no C compiler")
     def test_queues_are_found_in_both_forms(self) -> None:
         with tempfile.TemporaryDirectory() as name:
-            words = ["cc", "-Wall", "-Wextra", "-Wno-unknown-pragmas", f"-I{KERNEL}", "-o", f"{name}/places",
-                     str(Path(__file__).with_name("queue_places.c"))]
-            self.assertEqual(subprocess.run(words, capture_output=True, text=True, check=False).stderr, "")
-            done = subprocess.run([f"{name}/places"], capture_output=True, text=True, check=False)
-            self.assertEqual((done.returncode, done.stdout), (0, ""))
+            self.run_checked("cc", "-Wall", "-Wextra", "-Wno-unknown-pragmas", f"-I{KERNEL}", "-o", f"{name}/places", str(PLACES))
+            self.assertEqual(self.run_checked(f"{name}/places"), "")
 
 
 class MessageTest(unittest.TestCase):
@@ -91,7 +86,3 @@ class DiskTest(unittest.TestCase):
         self.assertEqual(name_gaps(0, 0, False), [])
         self.assertEqual(name_gaps(1, 2, True), [
             "1 records were lost", "the kernel left out 2 runs of the trace programs", "the records reached the limit of --disk"])
-
-
-if __name__ == "__main__":
-    unittest.main()

@@ -15,7 +15,7 @@ from collections import Counter, deque
 from typing import Any
 from unittest import mock
 
-from ..common import proc, spaces
+from ..common import proc, spaces, workers
 from ..common.errors import Unavailable
 from ..common.files import BASE
 from ..common.folios import Folio
@@ -36,7 +36,7 @@ def kernel() -> KernelMemory:
 
 
 @unittest.skipUnless(os.geteuid() == 0, "not root")
-class Changes(unittest.TestCase):
+class ChangesTest(unittest.TestCase):
     def setUp(self) -> None:
         self.memory = mmap.mmap(-1, 5 * HUGE, flags=mmap.MAP_PRIVATE | mmap.MAP_ANONYMOUS)
         at = ctypes.addressof(ctypes.c_char.from_buffer(self.memory))
@@ -77,14 +77,8 @@ class Changes(unittest.TestCase):
         self.assertFalse(self.reader.unread or self.reader.left_out)
 
 
-class Locked(unittest.TestCase):
-    def test_a_page_whose_first_subpages_are_not_mapped_may_begin_below_all_addresses(self) -> None:
-        spans = Spans(array("Q", [16 * BASE, 18 * BASE]).tobytes())
-        self.assertEqual(spans.subpages((16 - 300) * BASE % (1 << 64), 512), 3 << 300)
-
-
 @unittest.skipUnless(os.geteuid() == 0, "not root")
-class Waiting(unittest.TestCase):
+class WaitingTest(unittest.TestCase):
     def setUp(self) -> None:
         flags = os.open("/proc/kpageflags", os.O_RDONLY | os.O_CLOEXEC)
         self.addCleanup(os.close, flags)
@@ -96,47 +90,38 @@ class Waiting(unittest.TestCase):
         todo = deque(Request(os.getpid(), WALK, thread=os.getpid()) for _ in range(count))
         return Counter(answer is not None for _, answer in self.workers.ask(todo))
 
-    def test_workers_that_are_stopped_are_replaced(self) -> None:
+    def test_workers_that_are_stopped_or_killed_are_replaced(self) -> None:
         self.assertEqual(self.answered(5), {True: 5})
-        for process in children():
-            signal.pidfd_send_signal(os.pidfd_open(process), signal.SIGSTOP)
-        found = self.answered(6)
-        self.assertEqual((found[False] in (1, 2), found[False] + found[True]), (True, 6))
-        self.assertEqual(self.answered(3), {True: 3})
-
-    def test_workers_that_are_killed_are_replaced(self) -> None:
-        self.answered(2)
-        for process in children():
-            signal.pidfd_send_signal(os.pidfd_open(process), signal.SIGKILL)
-        self.answered(4)
-        self.assertEqual(self.answered(3), {True: 3})
+        for sent in (signal.SIGSTOP, signal.SIGKILL):
+            workers = children()
+            for process in workers:
+                signal.pidfd_send_signal(os.pidfd_open(process), sent)
+            found = self.answered(6)
+            self.assertEqual((found[False] <= len(workers), found[False] + found[True]), (True, 6))
+            self.assertEqual(self.answered(3), {True: 3})
         until = time.monotonic() + 30
         while children() and time.monotonic() < until:
             self.workers.close()
         self.assertEqual(children(), [])
 
-    def test_a_worker_that_works_may_go_on_for_a_while(self) -> None:
+    def test_a_worker_that_runs_may_go_on_for_a_while(self) -> None:
         self.answered(1)
         worker = self.workers._idle[0]
-        worker.limit, worker.wake = 2.0, 0.0
+        worker.limit = 2.0
         worker.begin(Request(1 << 30, WALK), False, 1)
-        begun = worker.until
-        for ran, now, may_go_on in ((1.0, 0.1, None), (1.1, 2.1, True), (1.11, 4.2, False), (1.5, 6.0, True), (9.0, 13.0, False)):
-            with mock.patch.object(worker, "_run_time", return_value=ran):
-                worker.watch(begun - 2 + now)
-                if may_go_on is not None:
-                    self.assertEqual(worker.has_worked(begun - 2 + now), may_go_on, now)
+        begun = worker.until - 2
+        for state, now, may_go_on in ((b"R", 2.1, True), (b"D", 4.2, False), (b"T", 6.0, False), (b"R", 6.0, True), (b"R", 13.0, False)):
+            with mock.patch.object(workers, "read_bytes", return_value=b"7 (a) b) " + state + b" 1 1"):
+                self.assertEqual(worker.may_go_on(begun + now), may_go_on, now)
 
     def test_workers_end_with_the_tool(self) -> None:
         code = "import os,time; from linux.common.kernel_memory import KernelMemory; from linux.common.reader import Reader;" \
                "r=Reader(KernelMemory(), threads=2); r.read_processes([os.getpid()]);" \
                "print(*open(f'/proc/self/task/{os.getpid()}/children').read().split(), flush=True); time.sleep(60)"
-        tool = subprocess.Popen([sys.executable, "-c", code], stdout=subprocess.PIPE, text=True)
-        assert tool.stdout
-        found = tool.stdout.readline().split()
-        tool.kill()
-        tool.wait()
-        tool.stdout.close()
+        with subprocess.Popen([sys.executable, "-c", code], stdout=subprocess.PIPE, text=True) as tool:
+            assert tool.stdout
+            found = tool.stdout.readline().split()
+            tool.kill()
         until = time.monotonic() + 30
         while any(os.path.exists(f"/proc/{each}") for each in found) and time.monotonic() < until:
             time.sleep(0.01)
@@ -149,7 +134,11 @@ def children() -> list[int]:
         return [int(number) for number in file.read().split()]
 
 
-class Errors(unittest.TestCase):
+class SpacesTest(unittest.TestCase):
+    def test_a_page_whose_first_subpages_are_not_mapped_may_begin_below_all_addresses(self) -> None:
+        spans = Spans(array("Q", [16 * BASE, 18 * BASE]).tobytes())
+        self.assertEqual(spans.subpages((16 - 300) * BASE % (1 << 64), 512), 3 << 300)
+
     def test_an_error_is_never_no_memory(self) -> None:
         for error in (FileNotFoundError(2, "gone"), ProcessLookupError(3, "gone")):
             with mock.patch.object(proc, "read_file", side_effect=error):

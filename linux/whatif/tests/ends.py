@@ -23,7 +23,7 @@ from ...common.files import BASE, COLLAPSE_SLEEP, PTES_NONE, SWITCH, read, size_
 from ...common.groups import find_hierarchy
 from ...common.keeper import Keeper
 from ...common.page_files import Frames, frames_at
-from ...tests.ends import heed_interrupts
+from ...tests.root_case import heed_interrupts
 
 PROGRAM = Path(__file__).resolve().parent.parent / "thpwhatif"
 HUGE, PAGES = BASE * 512, 16
