@@ -90,27 +90,23 @@ def add_policies(words: argparse.ArgumentParser) -> None:
     """Adds the options of policies."""
     words.add_argument("journals", nargs="+", metavar="JOURNAL", help="of thprecord or thpsplit; - is standard input")
     words.add_argument("--threshold", default="recorded", metavar="LIST", help="recorded, off, numbers from 0 to 511")
-    words.add_argument(
-        "--scan", default="recorded,never", metavar="LIST", help="when: recorded, never, events:N, seconds:S, held:MIB"
-    )
+    when = "when: recorded, never, events:N, seconds:S, held:MIB"
+    words.add_argument("--scan", default="recorded,never", metavar="LIST", help=when)
     words.add_argument("--take", default="recorded", metavar="N", help="pages that a scan takes: recorded, all, a number")
     words.add_argument("--times", action="append", metavar="FILE", help="of a journal: seconds of each event; repeatable")
     words.add_argument("--best", type=seconds(0.001, MOST_FREED), metavar="MIB", help="fewest splits within so much memory")
     words.add_argument("--json", action="store_true", help="a JSON object instead of a table")
-    words.add_argument("--svg", metavar="FILE", help="a picture of the memory held")
     words.add_argument("--checker", metavar="PATH", help="the thpcheck to run")
 
 
 def add_verify(words: argparse.ArgumentParser) -> None:
     """Adds the options of verify."""
     add_thresholds(words)
-    count, most = whole(1, MOST_COUNT), whole(1, 4000)
-    words.add_argument("--rounds", type=count, default=1, metavar="N", help="how often each threshold is tried")
+    micros, after = whole(0, 10**9), seconds(0, LONGEST)
+    words.add_argument("--rounds", type=whole(1, MOST_COUNT), default=1, metavar="N", help="how often each threshold is tried")
     words.add_argument("--seed", type=whole(0, 10**17), default=1, metavar="S")
-    words.add_argument("--pages", type=most, default=40, metavar="N", help="known pages of a trial, at most 4000")
-    micros = whole(0, 10**9)
+    words.add_argument("--pages", type=whole(1, 4000), default=40, metavar="N", help="known pages of a trial, at most 4000")
     words.add_argument("--change", type=micros, default=0, metavar="MICROS", help="known pages that change so often")
-    after = seconds(0, LONGEST)
     words.add_argument("--after", type=after, default=5.0, metavar="SECONDS", help="for which the command runs first")
     words.add_argument("--user", metavar="NAME", help="runs the command; if not given, the caller of sudo")
     words.add_argument("--wait", action="store_true", help="wait until another tool that changes the machine has ended")

@@ -4,11 +4,10 @@ from __future__ import annotations
 
 import enum
 import struct
-from functools import lru_cache
 from typing import NamedTuple, Sequence
 
 from ..common.files import PMD_ORDER
-from ..common.folios import Folio, even_counts, full_set
+from ..common.folios import Folio, full_set
 
 SET = 64  # bytes of a set of subpages
 RECORD = struct.Struct(f"={SET}s{SET}sBBBBB3x")  # struct page of predict.c
@@ -74,14 +73,8 @@ def plan_page(folio: Folio, locked_are_tried: bool = False) -> PagePlan:
 
 def mapped_above(totals: Sequence[int], count: int) -> int:
     """Returns the subpages that are mapped more than `count` times."""
-    if totals is even_counts(totals[0], len(totals)) or totals.count(totals[0]) == len(totals):  # true of most pages
+    if totals.count(totals[0]) == len(totals):  # true of most pages
         return full_set(len(totals).bit_length() - 1) if totals[0] > count else 0
-    if isinstance(totals, bytes) and count < 256:
-        return int(totals[::-1].translate(digits_above(count)), 2)
+    if isinstance(totals, bytes) and count < 256:  # a digit for each, the last one first
+        return int(totals[::-1].translate(b"0" * (count + 1) + b"1" * (255 - count)), 2)
     return sum(1 << i for i, total in enumerate(totals) if total > count)
-
-
-@lru_cache(maxsize=None)
-def digits_above(count: int) -> bytes:
-    """Returns a table for `bytes.translate`: the digit 1 for numbers above `count`, else 0."""
-    return b"0" * (count + 1) + b"1" * (255 - count)

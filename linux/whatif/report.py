@@ -9,11 +9,14 @@ from typing import Any, Mapping, Sequence
 
 from ..common.errors import DONE, INCONCLUSIVE
 from .predictor import Predictor
-from .rows import DEFAULT, Moved, Row, Share, label, with_today
+from .rows import DEFAULT, FRAMES_A_MEBIBYTE, Moved, Row, Share, label, with_today
 from .snapshot import Snapshot, counted, guess_of, warnings
 
-HEAD = ("threshold", "pages split", "partly mapped", "underused", "pinned", "frames back", "MiB back", "pages kept")
-FRAMES_A_MEBIBYTE = 256
+HEAD = {
+    "threshold": "threshold", "split": "pages split", "partly_mapped": "partly mapped", "underused": "underused", "pinned": "pinned",
+    "frames_back": "frames back", "mebibytes_back": "MiB back", "kept": "pages kept",
+}
+"""The headings of a table, by the names of JSON."""
 
 
 @dataclass
@@ -53,13 +56,12 @@ class Report:
     def notes(self) -> list[str]:
         """Returns what a reader of one look's rows should know, a line each."""
         one, left_out = self.snapshots[0], self.left_out
-        lines = [one.note, guess_of(one) if one.lacking else "", last_line(left_out) if left_out else ""]
-        return [line for line in lines if line] + self.warnings()
+        return [*filter(None, (one.note, guess_of(one), last_line(left_out) if left_out else "")), *self.warnings()]
 
     def to_json(self, parts: Mapping[str, object] | None = None, is_look: bool = True) -> dict[str, Any]:
         """Returns it as a JSON object, with more parts, and with what there is about the look itself."""
         out: dict[str, Any] = {
-            "rows": [row_json(row, self.today) for row in self.rows],
+            "rows": [row.to_json(self.today) for row in self.rows],
             "could_move": {label(t): {"split": each.split, "frames_back": each.frames} for t, each in self.moved.items() if any(each)},
             "left_out": self.left_out,
             "unread": self.unread,
@@ -85,24 +87,18 @@ def report_of(predictor: Predictor, snapshots: Sequence[Snapshot], given: Sequen
 
 
 def aligned(lines: Sequence[Sequence[object]], left: int = 0) -> str:
-    """Returns lines of cells, right-aligned except the first `left` columns."""
-    texts = [[str(cell) for cell in line] for line in lines]
-    widths = [max(len(line[column]) for line in texts) for column in range(len(texts[0]))]
-    out = []
-    for line in texts:
-        cells = [c.ljust(w) if i < left else c.rjust(w) for i, (c, w) in enumerate(zip(line, widths))]
-        out.append("  ".join(cells).rstrip())
-    return "\n".join(out)
+    """Returns lines of cells, right-aligned except the first `left` columns. Numbers with a point get one digit after it."""
+    texts = [[f"{cell:.1f}" if isinstance(cell, float) else str(cell) for cell in line] for line in lines]
+    widths = [max(map(len, column)) for column in zip(*texts)]
+    rows = ([c.ljust(w) if i < left else c.rjust(w) for i, (c, w) in enumerate(zip(line, widths))] for line in texts)
+    return "\n".join("  ".join(cells).rstrip() for cells in rows)
 
 
 def table(rows: Sequence[Row], today: int | None = None) -> str:
     """Returns a line for each threshold; the machine's own is marked."""
-    lines: list[list[object]] = [[*HEAD, ""]]
-    for row in rows:
-        cells = [label(row.threshold), row.split, row.partly, row.underused, row.pinned, row.frames]
-        mark = "<- today" if row.threshold == today else ""
-        lines.append([*cells, f"{row.mebibytes:.1f}", row.kept, mark])
-    return aligned(lines)
+    objects = [row.to_json(today) for row in rows]
+    lines = [[each[name] for name in HEAD] + ["<- today" if each["today"] else ""] for each in objects]
+    return aligned([[*HEAD.values(), ""], *lines])
 
 
 def group_table(groups: dict[str, list[Row]]) -> str:
@@ -110,7 +106,7 @@ def group_table(groups: dict[str, list[Row]]) -> str:
     first: list[Row] = next(iter(groups.values()), [])
     lines: list[list[object]] = [["control group", "pages", *(label(row.threshold) for row in first)]]
     for name, rows in sorted(groups.items(), key=lambda item: (-item[1][0].pages, item[0])):
-        lines.append([name, rows[0].pages, *(f"{row.mebibytes:.1f}" for row in rows)])
+        lines.append([name, rows[0].pages, *(row.mebibytes for row in rows)])
     return "MiB back by control group:\n" + aligned(lines, 1)
 
 
@@ -120,7 +116,7 @@ def process_table(shares: dict[int, dict[int, Share]], names: dict[int, str]) ->
     lines: list[list[object]] = [["process", "name", "pages", *(label(threshold) for threshold in shares)]]
     first: dict[int, Share] = next(iter(shares.values()), {})
     for process in sorted(first, key=lambda number: (-first[number].pages, number)):
-        cells = [f"{each.get(process, Share()).mebibytes:.1f}" for each in shares.values()]
+        cells = [each.get(process, Share()).frames / FRAMES_A_MEBIBYTE for each in shares.values()]
         lines.append([process, names.get(process, "?"), first[process].pages, *cells])
     return "MiB back by process (a shared page counts once):\n" + aligned(lines, 2)
 
@@ -130,7 +126,7 @@ def cost_table(shares: dict[int, Share], names: dict[int, str]) -> str:
     lines: list[list[object]] = [["process", "name", "huge mappings lost", "pages split", "MiB back"]]
     for process, share in sorted(shares.items(), key=lambda item: (-item[1].lost, item[0])):
         if share.lost or share.split:
-            lines.append([process, names.get(process, "?"), share.lost, share.split, f"{share.mebibytes:.1f}"])
+            lines.append([process, names.get(process, "?"), share.lost, share.split, share.frames / FRAMES_A_MEBIBYTE])
     return aligned(lines, 2)
 
 
@@ -141,32 +137,10 @@ def last_line(left_out: Mapping[str, int]) -> str:
     return "left out: " + ("; ".join(parts[:4]) or "nothing") + more
 
 
-def row_json(row: Row, today: int | None) -> dict[str, Any]:
-    """Returns a row as a JSON object."""
-    return {
-        "threshold": label(row.threshold) if label(row.threshold) == "off" else row.threshold,
-        "today": row.threshold == today,
-        "pages": row.pages,
-        "split": row.split,
-        "partly_mapped": row.partly,
-        "underused": row.underused,
-        "pinned": row.pinned,
-        "frames_back": row.frames,
-        "mebibytes_back": round(row.mebibytes, 3),
-        "kept": row.kept,
-    }
-
-
 def shares_json(shares: dict[int, Share], names: dict[int, str]) -> list[dict[str, Any]]:
     """Returns the shares of processes as JSON."""
     return [
-        {
-            "process": process,
-            "name": names.get(process, "?"),
-            "pages": share.pages,
-            "split": share.split,
-            "frames_back": share.frames,
-            "huge_mappings_lost": share.lost,
-        }
+        {"process": process, "name": names.get(process, "?"), "pages": share.pages, "split": share.split, "frames_back": share.frames,
+         "huge_mappings_lost": share.lost}
         for process, share in sorted(shares.items())
     ]
