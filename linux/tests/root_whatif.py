@@ -4,8 +4,8 @@
     linux/tests/root_whatif.py [-k NAME]
 
 Names with any bytes, thousands of locked areas, hundreds of forks, pages given to MADV_FREE, missing capabilities, the
-capabilities of thpwhatif.service, a PID namespace, noise beside `verify`, few descriptors, a GiB of huge pages within a limit of memory,
-and files of other users. The programs are those of hostile_pages.c. The last line is `N passed, M failed`; 77 without root or cc.
+capabilities of thpwhatif.service, a PID namespace, noise beside `verify`, few descriptors, and a GiB of huge pages within a limit of
+memory. The programs are those of hostile_pages.c. The last line is `N passed, M failed`; 77 without root or cc.
 """
 
 from __future__ import annotations
@@ -15,30 +15,23 @@ import json
 import os
 import re
 import shutil
-import signal
-import subprocess
 import sys
-import tempfile
 import time
 from contextlib import ExitStack
-from functools import partial
 from pathlib import Path
 
 ROOT = Path(__file__).resolve().parent.parent.parent
 sys.path.insert(0, str(ROOT))
 sys.dont_write_bytecode = True
 
-from linux.common import checker  # noqa: E402
-from linux.common.errors import DONE, FAILED, INCONCLUSIVE, SKIPPED, USAGE  # noqa: E402
+from linux.common.errors import DONE, FAILED, INCONCLUSIVE, SKIPPED  # noqa: E402
 from linux.common.groups import find_hierarchy  # noqa: E402
-from linux.common.program import find  # noqa: E402
 from linux.tests.root_case import main  # noqa: E402
-from linux.tests.whatif_calls import USER, WHATIF, Call, WhatifCase, limit_memory  # noqa: E402
+from linux.tests.whatif_calls import USER, Call, WhatifCase  # noqa: E402
 
 ALL = (DONE, INCONCLUSIVE)  # statuses of a look at all processes: one may be unreadable even for root
 LONGEST_LOOK = 15  # seconds, beside 2,000 locked areas
 MOST_MEMORY = 150  # MiB that the tool may take, whatever is mapped
-LATE = 10 ** 10  # seconds of the last event
 NAMES = [
     b"a\nb", b"\nVmLck: 1 kB", b"v\x0bt\x0cff", b"\x1cfs\x1dgs\x1ers", b"nel\xc2\x85", b"ls\xe2\x80\xa8ps\xe2\x80\xa9",
     b") R 1 1 1", b"\x1b[31mred", b"\\x41\\", b"\xff\xfe\x80", b"\r\rcr", b" ",
@@ -178,68 +171,6 @@ class Rights(WhatifCase):
             self.skipTest("PID namespaces can't be made here")
         self.assertIn("PID namespace", self.check(look, *ALL).out)
         self.assertNotIn("whole machine", look.out)
-
-
-class Files(WhatifCase):
-    """Files and folders of other users."""
-
-    def test_a_folder_is_replaced(self) -> None:
-        """Root writes into a folder of another user, who replaces it by a link to root's own folder before root interrupts the tool."""
-        for sent in (signal.SIGINT, signal.SIGTERM):
-            with self.subTest(sent=sent.name), tempfile.TemporaryDirectory() as name:
-                os.chmod(name, 0o755)
-                other, own = Path(name) / "other", Path(name) / "own"
-                for folder in (other, other / "d", own):
-                    folder.mkdir()
-                    os.chown(folder, *((USER, USER) if folder != own else (0, 0)))
-                (own / "new").write_text("precious\n")
-                default = partial(signal.signal, signal.SIGINT, signal.SIG_DFL)  # a shell's background job ignores it
-                words = [WHATIF, "what-if", "-", "--svg", str(other / "d/new")]
-                with subprocess.Popen(words, stdin=subprocess.PIPE, stderr=subprocess.PIPE, preexec_fn=default) as tool:
-                    while not (other / "d/new").exists() and tool.poll() is None:
-                        time.sleep(0.01)
-                    if tool.poll() == SKIPPED:
-                        self.skipTest("no libthp")
-                    replace = ["sh", "-c", 'mv "$0/d" "$0/e" && ln -s "$1" "$0/d"', str(other), str(own)]
-                    subprocess.run(replace, user=USER, group=USER, extra_groups=[], check=True)
-                    tool.send_signal(sent)
-                    problems = tool.communicate(timeout=60)[1].decode()
-                self.assertNotIn("Traceback", problems)
-                self.assertTrue((own / "new").exists(), "root's own file is removed")
-                self.assertFalse((other / "e/new").exists(), "the tool's file is left")
-
-    def test_stored_looks(self) -> None:
-        """Stored looks of 63 MiB that another user made are refused in a line, with little memory."""
-        size, head = 63 << 20, b'{"version": 3\n,"folios": [\n'
-        page = b'{"order":2,"frame":%d,"totals":[[4,1]]},'
-        texts = {
-            "lists": b'{"version":3,"folios":[' + b"[]," * (size // 3) + b"[]]}",
-            "lists in lines": head + b"[],\n" * (size // 4) + b"]\n}\n",
-            "pages in a line": b'{"version":3,"folios":[' + b"".join(page % (4 * n) for n in range(500000)) + b"]}",
-            "pages in lines": head + b"".join(page % (4 * n) + b"\n" for n in range(500000)) + b"]\n}\n",
-            "names": b'{"version": 3\n,"processes": {\n' + b'"5": "x",\n' * (size // 10),
-        }
-        for name, text in texts.items():
-            with self.subTest(name), tempfile.NamedTemporaryFile() as file:
-                file.write(text)
-                file.flush()
-                call = self.check(Call(["what-if", file.name], prepare=partial(limit_memory, 400 << 20)), USAGE, SKIPPED)
-                if call.status == SKIPPED:
-                    self.skipTest(call.problems)
-                self.assertEqual((call.out, call.problems.count("\n")), ("", 1))
-                self.assertIn("this is no stored snapshot", call.problems)
-
-    def test_late_times(self) -> None:
-        """Scans between events that are far apart end in time, and are counted."""
-        events = "0 alloc 0\n0 splitpmd 0\n0 pin 0\n0 unmapsub 0 0 1 queued -\n0 mapsub 0 5 1\n"
-        journal, times = Path(self.pages.folder) / "journal", Path(self.pages.folder) / "times"
-        journal.write_text(f"thp-journal 1\nnode 0 blocks 1\n{events}end\n")
-        times.write_text(f"0\n0\n0\n1\n{LATE}\n")
-        named = [] if find("thpcheck", checker.BUILT) else ["--checker", str(ROOT / "linux/tests/plain_checker.py")]
-        call = self.check(Call(["policies", str(journal), "--times", str(times), "--scan", "seconds:0.001", *named]), DONE, SKIPPED)
-        if call.status == SKIPPED:
-            self.skipTest(call.problems)
-        self.assertAlmostEqual(int(call.out.split("\n")[1].split()[4]), 1000 * LATE, delta=10 ** 6)
 
 
 if __name__ == "__main__":

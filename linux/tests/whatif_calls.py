@@ -4,7 +4,6 @@ from __future__ import annotations
 
 import json
 import os
-import resource
 import shutil
 import stat
 import subprocess
@@ -13,7 +12,7 @@ import time
 import unittest
 from contextlib import contextmanager
 from pathlib import Path
-from typing import Any, Callable, Iterator, Sequence
+from typing import Any, Iterator, Sequence
 
 from .root_case import RootCase
 
@@ -27,11 +26,10 @@ USER = 64123  # another user, who need not exist
 class Call:
     """A call of thpwhatif that ended: its status, its texts, its seconds, and its peak of memory in MiB."""
 
-    def __init__(self, words: Sequence[str], before: Sequence[str] = (), prepare: Callable[[], None] | None = None) -> None:
+    def __init__(self, words: Sequence[str], before: Sequence[str] = ()) -> None:
         began = time.monotonic()
         with tempfile.TemporaryFile() as out, tempfile.TemporaryFile() as problems:
-            command = [*before, WHATIF, *words]
-            child = subprocess.Popen(command, stdin=subprocess.DEVNULL, stdout=out, stderr=problems, preexec_fn=prepare)
+            child = subprocess.Popen([*before, WHATIF, *words], stdin=subprocess.DEVNULL, stdout=out, stderr=problems)
             while not (ended := os.wait4(child.pid, os.WNOHANG))[0]:
                 if time.monotonic() - began > SECONDS:
                     child.kill()
@@ -111,8 +109,3 @@ class WhatifCase(RootCase):
         self.assertIn(call.status, statuses, call.problems[-300:] + call.out[-300:])
         self.assertNotRegex(call.out + call.problems, "[^\n -~]")
         return call
-
-
-def limit_memory(size: int) -> None:
-    """Limits the data of this process, in bytes."""
-    resource.setrlimit(resource.RLIMIT_DATA, (size, size))

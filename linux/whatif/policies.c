@@ -17,7 +17,6 @@ enum { ALLOC, CLOSE, MAPWHOLE, UNMAPWHOLE, MAPSUB, UNMAPSUB, SPLITPMD, PIN, UNPI
 /* When scans come: where the journal has takes; never; after each `amount` calls; each `amount` seconds; after each call that leaves
  * `amount` frames held, or more. */
 enum { RECORDED, NEVER, EVENTS, SECONDS, HELD };
-
 enum { AS_RECORDED = 0, ALL = UINT32_MAX }; /* how many pages a scan takes, if it is no number */
 
 struct event {
@@ -40,16 +39,25 @@ struct sums {
     double seconds;
 };
 
+/* A caller's batch of a recorded scan. The node tries its oldest page first, the kernel the newest one: tries wait until the journal has
+ * that of the oldest page, or as many as there are pages. */
+struct batch {
+    bool is_open, is_in_order;
+    uint32_t count;  /* pages that weren't tried here, or freed */
+    uint32_t waiting;
+    uint64_t oldest;
+};
+
 struct run {
     thp_node node;
     thp_code code; /* of the first call that failed and may not */
     uint32_t subpages, when, take;
     double amount;
-    uint32_t taken, taker;        /* the takes in a row that the journal has here, and their caller */
-    bool is_open[UINT8_MAX + 1];  /* whether a caller's batch of a recorded scan is */
-    uint64_t calls;               /* since the last scan */
-    bool is_timed;                /* there was an event */
-    double last_scan, now;
+    uint32_t taken, taker; /* the takes in a row that the journal has here, and their caller */
+    uint64_t oldest;       /* the first page of these */
+    struct batch batches[UINT8_MAX + 1]; /* by caller */
+    uint64_t calls;        /* since the last scan */
+    double last_scan, now; /* -1: before the first event */
     struct sums sums;
 };
 
@@ -92,18 +100,23 @@ static uint64_t scan(struct run *run, uint32_t caller, uint64_t n) {
     return taken == back ? taken : 0;
 }
 
-static void close_batch(struct run *run, uint32_t caller) {
-    thp_back back;
-    if (run->is_open[caller]) demand(run, thp_node_put_back(&run->node, caller, &back));
-    run->is_open[caller] = false;
+/* Does the tries that wait, where a page is left. */
+static void do_tries(struct run *run, uint32_t caller) {
+    struct batch *batch = &run->batches[caller];
+    uint64_t before = stats_of(run).frames_given;
+    for (thp_tried tried; batch->waiting; batch->waiting--) {
+        demand(run, thp_node_split_next(&run->node, caller, &tried));
+        batch->count -= batch->count > 0;
+    }
+    run->sums.back += stats_of(run).frames_given - before;
 }
 
-/* Tries the next page of an open batch: the kernel tries the newest one first, the node the oldest. */
-static void try_next(struct run *run, uint32_t caller) {
-    thp_tried tried;
-    uint64_t before = stats_of(run).frames_given;
-    demand(run, thp_node_split_next(&run->node, caller, &tried));
-    run->sums.back += stats_of(run).frames_given - before;
+static void close_batch(struct run *run, uint32_t caller) {
+    thp_back back;
+    if (!run->batches[caller].is_open) return;
+    do_tries(run, caller);
+    demand(run, thp_node_put_back(&run->node, caller, &back));
+    run->batches[caller].is_open = false;
 }
 
 /* Does the takes in a row that the journal had: by a batch that stays open, or as a scan where the policy changes how many are taken. */
@@ -117,20 +130,23 @@ static void end_takes(struct run *run) {
         return;
     }
     demand(run, thp_node_take(&run->node, run->taker, n, &taken));
-    run->is_open[run->taker] = true;
+    run->batches[run->taker] = (struct batch){.is_open = true, .count = taken, .oldest = run->oldest};
     run->sums.scans++;
 }
 
 /* Does an event of a recorded scan. */
 static void follow_scan(struct run *run, const struct event *event) {
+    struct batch *batch = &run->batches[event->caller];
     if (event->word != TAKEN || event->caller != run->taker) end_takes(run);
     if (event->word == TAKEN) {
+        if (!run->taken++) run->oldest = event->page;
         run->taker = event->caller;
-        run->taken++;
     } else if (event->word == BACK || event->word == DROPPED) {
         close_batch(run, event->caller);
-    } else if (run->is_open[event->caller]) {
-        try_next(run, event->caller);
+    } else if (batch->is_open) {
+        batch->waiting++;
+        batch->is_in_order |= event->page == batch->oldest;
+        if (batch->is_in_order || batch->waiting >= batch->count) do_tries(run, event->caller);
     }
 }
 
@@ -141,17 +157,12 @@ static uint64_t scan_by_policy(struct run *run) {
     return n ? scan(run, 0, n) : 0;
 }
 
-/* How many scans come until a time. */
-static uint64_t scans_until(const struct run *run, double until) {
-    return (uint64_t)((until - run->last_scan) / run->amount);
-}
-
-/* Counts scans until a time that put back all `taken` pages that each takes, as those before did: all `queued` pages are pinned. Only full turns of the
- * queue, so that its order stays that of the scans. */
+/* Counts scans until a time that put back all `taken` pages that each takes, as those before did: all `queued` pages are pinned. Full turns
+ * of the queue alone, so that its order stays that of the scans. */
 static void skip_scans(struct run *run, double until, uint64_t taken, uint64_t queued) {
     uint64_t turn = 1;
     while (turn * taken % queued) turn++;
-    uint64_t scans = scans_until(run, until) / turn * turn;
+    uint64_t scans = (uint64_t)((until - run->last_scan) / run->amount) / turn * turn;
     run->sums.scans += scans;
     run->sums.failed += scans * taken;
     run->last_scan += run->amount * (double)scans;
@@ -163,7 +174,7 @@ static void pass_time(struct run *run, double until) {
     while (run->when == SECONDS && run->last_scan + run->amount <= until) {
         uint64_t queued = stats_of(run).queued;
         if (!queued) {
-            run->last_scan += run->amount * (double)scans_until(run, until);
+            run->last_scan += run->amount * (double)(uint64_t)((until - run->last_scan) / run->amount);
             break;
         }
         run->last_scan += run->amount;
@@ -222,14 +233,11 @@ static void call_page(struct run *run, const struct event *event) {
         if (code != THP_OK && is_mapping) make_otherwise(run, event, &page, &done);
         else if (!page.split) demand(run, code);
         run->sums.huge -= done.outcome == THP_FREED && !page.split;
+        struct batch *batch = &run->batches[page.caller];
+        if (done.outcome == THP_FREED && page.list == THP_LIST_FLIGHT && batch->count && --batch->count <= batch->waiting)
+            do_tries(run, page.caller);
     }
     run->sums.changed += code != THP_OK;
-}
-
-/* Whether the policy wants a scan now, after a call. */
-static bool is_due(struct run *run) {
-    if (run->when == EVENTS) return (double)run->calls >= run->amount;
-    return run->when == HELD && (double)stats_of(run).frames_held >= run->amount;
 }
 
 /* Does an event under the policy. */
@@ -245,16 +253,19 @@ static void follow(struct run *run, const struct event *event) {
     else call_page(run, event);
     run->sums.huge += event->word == ALLOC;
     run->calls++;
-    if (is_due(run)) scan_by_policy(run);
     uint64_t held = stats_of(run).frames_held;
+    if ((run->when == EVENTS && (double)run->calls >= run->amount) || (run->when == HELD && (double)held >= run->amount)) {
+        scan_by_policy(run);
+        held = stats_of(run).frames_held;
+    }
     if (held > run->sums.peak) run->sums.peak = held;
 }
 
 /* Makes a run of a node; null where that isn't possible. */
 struct run *start_run(uint32_t blocks, uint32_t order, uint32_t threshold, uint32_t when, double amount, uint32_t take) {
-    struct run *run = calloc(1, sizeof *run);
+    struct run *run = malloc(sizeof *run);
     if (!run) return NULL;
-    *run = (struct run){.node = THP_NODE_INIT, .subpages = 1U << order, .when = when, .amount = amount, .take = take};
+    *run = (struct run){.node = THP_NODE_INIT, .subpages = 1U << order, .when = when, .amount = amount, .take = take, .now = -1};
     if (threshold >= run->subpages) threshold = THP_UNDERUSED_OFF;
     demand(run, thp_node_create_counting(&run->node, blocks, order, threshold));
     if (run->code == THP_OK) return run;
@@ -264,11 +275,11 @@ struct run *start_run(uint32_t blocks, uint32_t order, uint32_t threshold, uint3
 
 /* Does events. Returns a thp_code; where it isn't THP_OK, `failed` is the event's place, and the run can't continue. */
 thp_code follow_events(struct run *run, const struct event *events, uint32_t count, uint32_t *failed) {
-    for (*failed = 0; *failed < count && run->code == THP_OK; ++*failed) {
-        if (!run->is_timed) run->now = run->last_scan = events[*failed].at;
-        run->is_timed = true;
+    for (*failed = 0; *failed < count; ++*failed) {
+        if (run->now < 0) run->now = run->last_scan = events[*failed].at;
         pass_time(run, events[*failed].at);
         follow(run, &events[*failed]);
+        if (run->code != THP_OK) break;
     }
     return run->code;
 }
@@ -276,6 +287,7 @@ thp_code follow_events(struct run *run, const struct event *events, uint32_t cou
 /* Ends a run; stores its numbers. */
 void end_run(struct run *run, struct sums *sums) {
     end_takes(run);
+    for (uint32_t caller = 0; caller <= UINT8_MAX; caller++) do_tries(run, caller);
     thp_stats stats = stats_of(run);
     *sums = run->sums;
     sums->split = stats.split_page;

@@ -135,17 +135,13 @@ def policies_of(thresholds: str, scans: str, take: str) -> list[Policy]:
 
 
 def open_again(path: str) -> IO[bytes]:
-    """Opens a file that a user named, or copies standard input (`-`) to an unnamed file: it is read several times. InputFault where
-    it can't be read."""
+    """Opens a file that a user named, or copies standard input (`-`) to an unnamed file: it is read several times."""
     file = open_input(path)
     if path != "-":
         return file
     spool = tempfile.TemporaryFile(prefix="thpwhatif-")
-    try:
-        shutil.copyfileobj(file, spool)
-        spool.flush()
-    except OSError as error:
-        raise InputFault(f"{escape(path)} can't be read: {error.strerror}") from error
+    shutil.copyfileobj(file, spool)
+    spool.flush()
     return spool
 
 

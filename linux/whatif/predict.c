@@ -138,8 +138,7 @@ static thp_code predict_page(struct model *model, uint32_t threshold, struct fat
  * calls make. */
 thp_code predict(const struct page *pages, uint32_t count, uint32_t threshold, struct fate *fates, uint64_t *given, uint32_t *failed) {
     for (*failed = 0; *failed < count; ++*failed) {
-        const struct page *page = &pages[*failed];
-        struct model model = {.page = page, .size = 1U << page->order, .node = THP_NODE_INIT};
+        struct model model = {.page = &pages[*failed], .size = 1U << pages[*failed].order, .node = THP_NODE_INIT};
         thp_code code = predict_page(&model, threshold, &fates[*failed], given ? &given[(size_t)*failed * WORDS] : NULL);
         thp_node_destroy(&model.node); /* it is empty where it couldn't be created */
         if (code != THP_OK) return code;

@@ -59,18 +59,13 @@ class Library:
         return fates.raw, given.raw if given else b""
 
 
-def helper_with_libthp(name: str) -> str:
-    """Returns the path of a helper that is linked with libthp. Unavailable where it isn't built."""
-    try:
-        return helper(name)
-    except Unavailable as error:
-        raise Unavailable(f"no libthp (a release has it; in a checkout: make c, then make -C linux): {error}") from error
-
-
 @lru_cache(maxsize=None)
 def load_library() -> Library:
-    """Returns the library, loaded once. Unavailable where it can't be."""
-    return Library(helper_with_libthp("predict.so"))
+    """Returns the library, loaded once. Unavailable where it isn't built, or can't be loaded."""
+    try:
+        return Library(helper("predict.so"))
+    except Unavailable as error:
+        raise Unavailable(f"no libthp (a release has it; in a checkout: make c, then make -C linux): {error}") from error
 
 
 class Predictor:

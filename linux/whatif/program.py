@@ -16,7 +16,7 @@ from ..common.tool import run_tool
 from .look import ProcessChoice, SnapshotTaker
 from .options import parser
 from .predictor import Predictor, load_library
-from .report import Report, cost_table, group_table, last_line, process_table, report_of, shares_json, table
+from .report import Report, cost_table, group_table, last_line, picture, process_table, report_of, shares_json, table
 from .rows import FRAMES_A_MEBIBYTE, OFF, label
 from .snapshot import NAME, Snapshot, list_notes
 
@@ -90,8 +90,6 @@ def command_tables(options: argparse.Namespace) -> int:
         predictor = Predictor(*snapshots)
         report = report_of(predictor, snapshots, options.thresholds)
         if svg:
-            from .picture import picture
-
             svg.write(picture(report.rows, report.today))
         if not predictor.folios:
             print("no huge pages are mapped here", file=sys.stderr)

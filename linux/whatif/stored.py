@@ -8,7 +8,7 @@ import re
 from collections import Counter
 from dataclasses import fields
 from itertools import chain, groupby
-from typing import IO, Any, Callable, Iterable, Iterator, Mapping
+from typing import IO, Any, Callable, Iterator, Mapping
 
 from ..common.errors import InputFault
 from ..common.files import PMD_ORDER, open_input
@@ -73,23 +73,15 @@ def table_of(name: Read, read: Read, make: Read = dict) -> Read:
     return lambda value: make({name(key): read(each) for key, each in OBJECT(value).items()})
 
 
-def record(make: Callable[..., Any], kind: type, needed: Iterable[str], **others: Read) -> Read:
-    """Returns how objects are read that have fields of a dataclass, some of them needed; `others`: those that aren't read by their type."""
+def record(make: Callable[..., Any], kind: type, **others: Read) -> Read:
+    """Returns how objects are read that have fields of a dataclass; `others`: those that aren't read by their type."""
     reads = reads_of(kind, **others)
-    return lambda value: made(make, {name: read_field(name, each, reads) for name, each in OBJECT(value).items()}, needed)
+    return lambda value: make(**{name: read_field(name, each, reads) for name, each in OBJECT(value).items()})
 
 
 def reads_of(kind: type, **others: Read) -> dict[str, Read]:
     """Returns how the fields of a dataclass are read: by their types, if it isn't given."""
     return {each.name: others.get(each.name) or BY_TYPE[str(each.type)] for each in fields(kind)}
-
-
-def made(make: Callable[..., Any], values: dict[str, Any], needed: Iterable[str]) -> Any:
-    """Returns what is made of fields. ValueError where one that is needed is missing."""
-    for name in needed:
-        if name not in values:
-            raise ValueError(f"{name} is missing")
-    return make(**values)
 
 
 def read_field(name: str, value: Any, reads: Mapping[str, Read]) -> Any:
@@ -102,9 +94,11 @@ def read_field(name: str, value: Any, reads: Mapping[str, Read]) -> Any:
         raise ValueError(f"{name}: {error}") from error
 
 
-def page_of(**values: Any) -> Folio:
-    """Returns a huge page of these values. ValueError where they don't fit its size."""
-    folio = Folio(**values)
+def page_of(frame: int = -1, order: int = -1, **values: Any) -> Folio:
+    """Returns a huge page of these values. ValueError where one is missing, or doesn't fit its size."""
+    if frame < 0 or order < 0:
+        raise ValueError("frame or order is missing")
+    folio = Folio(frame, order, **values)
     if len(folio.totals) != folio.size:
         raise ValueError(f"totals doesn't have {folio.size} numbers")
     if max(folio.zero, folio.known, folio.kept, *(mapping.subset for mapping in folio.mappings)) > folio.full:
@@ -129,11 +123,11 @@ BY_TYPE: dict[str, Read] = {
     "list[Mapping]": list_of(row(PageMapping, whole(1 << 31, 1), hexadecimal(16), SET, FLAG)),
 }
 PAGE = record(
-    page_of, Folio, ("frame", "order", "totals"), frame=whole(1 << 52), order=whole(PMD_ORDER, 2), zero=SET, known=SET, kept=SET,
+    page_of, Folio, frame=whole(1 << 52), order=whole(PMD_ORDER, 2), zero=SET, known=SET, kept=SET,
     pins=maybe(whole(MOST_MAPPED, -MOST_MAPPED)),  # references dropped between two reads make it negative
 )
 FIELDS = reads_of(
-    Snapshot, folios=list_of(PAGE), sums=record(Sums, Sums, [each.name for each in fields(Sums)]), today=maybe(whole((1 << PMD_ORDER) - 1)),
+    Snapshot, folios=list_of(PAGE), sums=record(Sums, Sums), today=maybe(whole((1 << PMD_ORDER) - 1)),
     changed_pages=list_of(row(lambda *pair: pair, maybe(PAGE), maybe(PAGE))),
 )
 
@@ -192,7 +186,11 @@ class StoredReader:
         """Returns the snapshot of a file, or of standard input (`-`). InputFault where it isn't one, or takes too much memory."""
         file, self._line = open_input(path), 0
         try:
-            snapshot: Snapshot = made(Snapshot, self._fields(file), NEEDED)
+            values = self._fields(file)
+            lacking = [name for name in NEEDED if name not in values]
+            if lacking:
+                raise ValueError(f"{lacking[0]} is missing")
+            snapshot = Snapshot(**values)
             if len({folio.frame for folio in snapshot.folios}) < len(snapshot.folios):
                 raise ValueError("two huge pages have the same frame")
             return snapshot

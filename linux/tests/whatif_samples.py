@@ -1,12 +1,35 @@
-"""Made-up huge pages for tests."""
+"""Made-up huge pages, and what tests of thpwhatif need."""
 
 from __future__ import annotations
 
+import os
 import random
+import subprocess
+import sys
+import unittest
+from pathlib import Path
 from typing import Any
 
-from ...common.folios import Folio, Mapping, compact_counts
-from ...common.subpages import bits_of
+from ..common.errors import Unavailable
+from ..common.folios import Folio, Mapping, compact_counts
+from ..common.subpages import bits_of
+from ..whatif.predictor import load_library
+
+ROOT = Path(__file__).resolve().parent.parent.parent
+LOOKS, TRIALS = ROOT / "linux/tests/looks", ROOT / "linux/tests/trials"
+try:
+    load_library()
+    LACKING = ""
+except Unavailable as error:
+    LACKING = str(error)
+NEEDS_LIBRARY = unittest.skipIf(LACKING, LACKING)
+
+
+def run(*words: str, user: int | None = None) -> subprocess.CompletedProcess[str]:
+    """Runs thpwhatif with these words; `user`: another one, where this is root."""
+    given: dict[str, Any] = {} if user is None or os.geteuid() else {"user": user, "group": user, "extra_groups": []}
+    command = ["/usr/bin/python3" if given else sys.executable, "-B", "-m", "linux.whatif", *words]
+    return subprocess.run(command, capture_output=True, text=True, cwd=ROOT, check=False, **given)
 
 
 def folio(number: int = 0, order: int = 9, **facts: Any) -> Folio:

@@ -7,17 +7,15 @@ import tempfile
 import time
 import unittest
 from pathlib import Path
-from typing import Any, Sequence
+from typing import Any
 
-from ...common.errors import InputFault
-from ...common.journal import journal_of
-from ...common.program import find
-from ..policies import Outcome, Policy, best_of, parse_scans, parse_threshold, policies_of
-from .own_library import ROOT, lacking
-from .test_program import run
+from ..common.errors import InputFault
+from ..common.journal import journal_of
+from ..common.program import find
+from ..whatif.policies import best_of, parse_scans, parse_threshold, policies_of
+from .whatif_samples import LACKING, ROOT, run
 
-
-LACKING = lacking() or ("" if find("thpcheck", ROOT / "crates/thpcheck/out/thpcheck") else "no thpcheck (make checker, THPCHECK)")
+NEEDED = LACKING or ("" if find("thpcheck", ROOT / "crates/thpcheck/out/thpcheck") else "no thpcheck (make checker, THPCHECK)")
 
 TWO = """thp-journal 1
 node 0 blocks 2
@@ -81,12 +79,10 @@ LATEST = 10 ** 10
 
 
 class Words(unittest.TestCase):
-    def test_each_policy_once(self) -> None:
+    def test_policies(self) -> None:
         found = policies_of("recorded,off", "recorded,never,events:10", "all")
         self.assertEqual([each.threshold for each in found], ["recorded", "recorded", "recorded", "off", "off"])
         self.assertEqual([each.scans for each in found], ["recorded", "never", "events:10", "recorded", "events:10"])
-
-    def test_words_that_are_none(self) -> None:
         for text in ("", "512", "-1", "on", "0x1", "1e3"):
             self.assertRaises(InputFault, parse_threshold, text)
         for text in ("", "events", "events:0", "events:1.5", "seconds:", "held:-1", "always", "held:1e3"):
@@ -94,12 +90,11 @@ class Words(unittest.TestCase):
         self.assertEqual((parse_threshold("511"), parse_scans("held:1.5")), ("off", ("held", 1.5)))
 
     def test_best_has_fewest_splits(self) -> None:
-        made = [Outcome(Policy("off", "never", 0, "all"), split=split, peak=peak) for split, peak in ((0, 900), (9, 256), (7, 200))]
-        self.assertEqual(best_of(made, 1.0), made[2])
-        self.assertIsNone(best_of(made, 0.5))
+        outcomes = [{"split": split, "peak_mebibytes": peak} for split, peak in ((0, 3.5), (9, 1.0), (7, 0.8))]
+        self.assertEqual((best_of(outcomes, 1.0), best_of(outcomes, 0.5)), (outcomes[2], None))
 
 
-@unittest.skipIf(LACKING, LACKING)
+@unittest.skipIf(NEEDED, NEEDED)
 class Runs(unittest.TestCase):
     def setUp(self) -> None:
         folder = tempfile.TemporaryDirectory()
@@ -111,8 +106,10 @@ class Runs(unittest.TestCase):
         path.write_text(text, encoding="ascii")
         return str(path)
 
-    def rows(self, text: str, *words: str) -> list[dict[str, Any]]:
-        done = run("policies", self.write(text), "--json", *words)
+    def rows(self, text: str, *words: str, times: list[float] | None = None) -> list[dict[str, Any]]:
+        """What each policy gives on a journal."""
+        timed = ["--times", self.write("".join(f"{at}\n" for at in times), "times")] if times else []
+        done = run("policies", self.write(text), "--json", *words, *timed)
         self.assertEqual((done.returncode, done.stderr), (0, ""))
         found: list[dict[str, Any]] = json.loads(done.stdout)["policies"]
         return found
@@ -123,8 +120,6 @@ class Runs(unittest.TestCase):
 
     def test_as_recorded_and_never(self) -> None:
         self.assertEqual(self.numbers(TWO), [(1, 0, 256, 0, 0), (0, 0, 0, 0, 0)])
-
-    def test_memory_held(self) -> None:
         recorded, never = self.rows(TWO)
         self.assertEqual((recorded["peak_mebibytes"], never["peak_mebibytes"]), (4.0, 4.0))
         # after the ten events: 2, 2, 2, 4, 4, 4, 4, 3, 1, 0 MiB, each for a second but the last
@@ -138,20 +133,16 @@ class Runs(unittest.TestCase):
         self.assertEqual((by_memory["scans_done"], by_memory["split"], by_memory["frames_back"]), (1, 1, 256))
 
     def test_scans_by_time(self) -> None:
-        times = "".join(f"{at}\n" for at in (100, 100.5, 101, 101.5, 160, 161, 200, 201, 202, 203))
-        row = self.rows(TWO, "--scan", "seconds:30", "--take", "all", "--times", self.write(times, "times"))[0]
-        self.assertEqual((row["scans_done"], row["split"]), (2, 2))
-        self.assertGreater(row["mebibyte_hours"], 0)
-
-    def test_a_long_pause(self) -> None:
-        times = "".join(f"{at}\n" for at in (0, 1, 2, 3, 4, 5, 6, 7, 8, 10 ** 10))
-        row = self.rows(TWO, "--scan", "seconds:0.001", "--take", "all", "--times", self.write(times, "times"))[0]
-        self.assertEqual((row["scans_done"], row["split"]), (2, 2))
+        for every, times in (("30", [100, 100.5, 101, 101.5, 160, 161, 200, 201, 202, 203]), ("0.001", [*range(9), LATEST])):
+            row = self.rows(TWO, "--scan", f"seconds:{every}", "--take", "all", times=times)[0]
+            self.assertEqual((row["scans_done"], row["split"]), (2, 2))
+            self.assertGreater(row["mebibyte_hours"], 0)
 
     def test_scans_that_change_nothing_take_no_time(self) -> None:
         for until, every in ((1000, "1"), (1000, "0.25"), (LATEST - 9, "0.001")):
-            times, began = "".join(f"{at}\n" for at in (0, 0, 0, 1, until, until + 1, until + 9)), time.monotonic()
-            row = self.rows(PINNED, "--scan", f"seconds:{every}", "--take", "all", "--times", self.write(times, "times"))[0]
+            began = time.monotonic()
+            times: list[float] = [0, 0, 0, 1, until, until + 1, until + 9]
+            row = self.rows(PINNED, "--scan", f"seconds:{every}", "--take", "all", times=times)[0]
             scans = int(until / float(every))
             # the scans while the page is pinned all fail; then it is split
             self.assertAlmostEqual(row["failed"], scans, delta=scans * 1e-9 + 1 / float(every) + 1)
@@ -164,38 +155,26 @@ class Runs(unittest.TestCase):
         head = ["0 alloc {0}", "0 splitpmd {0}", "0 unmapsub {0} 0 1 queued -", "0 pin {0}"]
         events = [line.format(page) for page in range(5) for line in head] + ["0 unpin 1 stays -", "0 mapsub 1 5 1"]
         text = "thp-journal 1\nnode 0 blocks 5\n" + "".join(line + "\n" for line in events) + "end\n"
-        found = []
+        found = set()
         for pause in range(10, 15):
-            times = "".join("0\n" for _ in events[:-2]) + f"{pause}\n{pause + 2}\n"
-            row = self.rows(text, "--scan", "seconds:1", "--take", "2", "--times", self.write(times, "times"))[0]
+            times = [0.0 for _ in events[:-2]] + [pause, pause + 2]
+            row = self.rows(text, "--scan", "seconds:1", "--take", "2", times=times)[0]
             order, failed, split = list(range(5)), 0, 0
             for scan in range(1, pause + 3):
                 taken, order = order[:2], order[2:]
                 put_back = [page for page in taken if page != 1 or scan <= pause]
                 failed, split, order = failed + len(put_back), split + len(taken) - len(put_back), order + put_back
             self.assertEqual((row["failed"], row["split"], row["scans_done"]), (failed, split, pause + 2), pause)
-            found.append(split)
-        self.assertEqual(set(found), {0, 1})
-
-    def test_times_that_do_not_fit(self) -> None:
-        ten = [str(number) for number in range(10)]
-        cases = (
-            (ten[:9], "no time of this event"), (ten + ["10"], "more times"), (["5", *ten[:9]], "before that"),
-            (["inf", *ten[1:]], "no number of seconds"), (["nan", *ten[1:]], "no number of seconds"), (["-1", *ten[1:]], "no number"),
-        )
-        for times, told in cases:
-            done = run("policies", self.write(TWO), "--times", self.write("\n".join(times) + "\n", "times"))
-            self.assertEqual((done.returncode, done.stdout), (2, ""))
-            self.assertIn(told, done.stderr)
+            found.add(split)
+        self.assertEqual(found, {0, 1})
 
     def test_thresholds(self) -> None:
         rows = self.numbers(CONTENTS, "--threshold", "recorded,411,412,off", "--scan", "recorded")
         self.assertEqual([row[:3] for row in rows], [(0, 0, 0), (1, 0, 412), (0, 0, 0), (0, 0, 0)])
 
     def test_a_page_split_early_takes_calls_of_its_subpages(self) -> None:
-        row = self.rows(SPLIT_EARLY, "--threshold", "0", "--scan", "events:2", "--take", "all")[0]
-        self.assertEqual((row["split"], row["frames_back"], row["huge_at_end"]), (1, 512, 0))
-        self.assertEqual(row["calls_changed"], 4)
+        row = self.numbers(SPLIT_EARLY, "--threshold", "0", "--scan", "events:2", "--take", "all")[0]
+        self.assertEqual(row, (1, 0, 512, 0, 4))
 
     def test_the_examples_as_recorded(self) -> None:
         for path in ("kernel", "two_workers", "eight_workers", "underused"):
@@ -206,32 +185,30 @@ class Runs(unittest.TestCase):
             row = self.numbers(text, "--scan", "recorded")[0]
             self.assertEqual((list(row[:3]), row[4]), (wanted, 0), path)
 
-    def test_an_illegal_journal(self) -> None:
-        done = run("policies", self.write(TWO.replace("split 0 0-255", "split 0 0-254")))
-        self.assertEqual((done.returncode, done.stdout, done.stderr.count("\n")), (1, "", 1))
-        self.assertIn("illegal line 10", done.stderr)
+    def refused(self, told: str, *words: str, status: int = 2) -> None:
+        done = run("policies", *words)
+        self.assertEqual((done.returncode, done.stdout, done.stderr.count("\n")), (status, "", 1), done.stderr)
+        self.assertIn(told, done.stderr)
 
     def test_faults(self) -> None:
-        journal = self.write(TWO)
-        cases: Sequence[tuple[Sequence[str], str]] = (
-            (("/nowhere",), "/nowhere can't be read"),
-            ((str(self.folder),), "no regular file"),
-            ((journal, "--threshold", "512"), "'512' is no threshold"),
-            ((journal, "--scan", "always"), "'always' is no time of scans"),
-            ((journal, "--take", "0"), "'0' is no number of pages"),
-            ((journal, "--scan", "seconds:2"), "needs the times"),
-            ((journal, journal, "--times", journal), "1 files of times for 2 journals"),
-            ((str(ROOT / "examples" / "first.script"),), "is no journal"),
-            ((journal, "--svg", journal), "exists already"),
-        )
-        for words, told in cases:
-            done = run("policies", *words)
-            self.assertEqual((done.returncode, done.stdout, done.stderr.count("\n")), (2, "", 1), done.stderr)
-            self.assertIn(told, done.stderr)
+        journal, ten = self.write(TWO), [str(number) for number in range(10)]
+        self.refused("/nowhere can't be read", "/nowhere")
+        self.refused("no regular file", str(self.folder))
+        self.refused("threshold '512'", journal, "--threshold", "512")
+        self.refused("'always' is no time of scans", journal, "--scan", "always")
+        self.refused("'0' is no number of pages", journal, "--take", "0")
+        self.refused("needs the times", journal, "--scan", "seconds:2")
+        self.refused("1 files of times for 2 journals", journal, journal, "--times", journal)
+        self.refused("is no journal", str(ROOT / "examples" / "first.script"))
+        self.refused("illegal line 10", self.write(TWO.replace("split 0 0-255", "split 0 0-254"), "illegal"), status=1)
+        for times, told in (
+            (ten[:9], "line 12: there is no time of this event"), (ten + ["10"], "more times"),
+            (["5", *ten[:9]], "line 4: its time is before"),
+            (["inf", *ten[1:]], "no number of seconds"), (["nan", *ten[1:]], "no number of seconds"), (["-1", *ten[1:]], "no number"),
+        ):
+            self.refused(told, journal, "--times", self.write("\n".join(times) + "\n", "times"))
 
-    def test_best_and_picture(self) -> None:
-        picture = self.folder / "picture.svg"
-        done = run("policies", self.write(TWO), "--best", "4", "--svg", str(picture))
-        self.assertIn("best: threshold recorded, scans never: 0 pages split, at most 4.0 MiB", done.stdout)
+    def test_best(self) -> None:
+        told = run("policies", self.write(TWO), "--best", "4").stdout
+        self.assertIn("best: threshold recorded, scans never: 0 pages split, at most 4.0 MiB", told)
         self.assertIn("no policy holds at most 1 MiB", run("policies", self.write(TWO), "--best", "1").stdout)
-        self.assertEqual(picture.read_text(encoding="utf-8").count("<polyline"), 2)
