@@ -162,7 +162,8 @@ def text_of(fields: dict[str, Any]) -> str:
     is_section = {name: isinstance(fields.get(name), (dict if brackets == "{}" else list)) for name, brackets in SECTIONS.items()}
     out = [json.dumps({name: value for name, value in fields.items() if not is_section.get(name)})[:-1]]
     for name in filter(is_section.get, SECTIONS):
-        entries = [{name: value} for name, value in fields[name].items()] if SECTIONS[name] == "{}" else [[each] for each in fields[name]]
+        is_table = SECTIONS[name] == "{}"
+        entries: list[Any] = [{each: fields[name][each]} if is_table else [each] for each in fields[name]]
         lines = [json.dumps(entry)[1:-1] + ("" if entry is entries[-1] else ",") for entry in entries]
         out += [f',"{name}": {SECTIONS[name][0]}', *lines, SECTIONS[name][1]]
     return "\n".join([*out, "}\n"])

@@ -17,11 +17,10 @@ from ..common.subpages import bits_of, size
 from ..whatif.look import keep_lasting_pins
 from ..whatif.page_plan import RECORD, NotPredictable, Reason, mapped_above, plan_page
 from ..whatif.predictor import Predictor, load_library
-from ..whatif.reference import given_back
 from ..whatif.rows import OFF
 from ..whatif.snapshot import Snapshot
 from ..whatif.stored import StoredReader
-from ..whatif.trial import Result, count_result, trial_lines
+from ..whatif.trial import Result, count_result, given_back, trial_lines
 from .whatif_samples import LACKING, NEEDS_LIBRARY, TRIALS, any_folio, folio, holed_folio
 
 FULL = bits_of(0, 512)
@@ -231,7 +230,7 @@ class Trials(unittest.TestCase):
                 self.assertEqual(Predictor(snapshot).frames_given(threshold), own, path.name)
 
     def test_outcomes(self) -> None:
-        for status, added, facts in (
+        cases: Sequence[tuple[int, int, dict[str, Any]]] = (
             (DONE, 1, {}),
             (DIFFERS, 1, {"differing": [1024]}),
             (DIFFERS, 2, {}),
@@ -241,7 +240,8 @@ class Trials(unittest.TestCase):
             (DIFFERS, 0, {"is_undisturbed": False}),  # others only add
             (INCONCLUSIVE, 1, {"problem": "the limit of 1 s was met", "differing": [1024]}),
             (INCONCLUSIVE, 1, {"moved": 1}),
-        ):
+        )
+        for status, added, facts in cases:
             with self.subTest(added=added, **facts):
                 one, sums = result_of(added, **facts), Counter[str]()
                 count_result(sums, one)

@@ -1,5 +1,9 @@
 """The outcome of a trial of `verify`: what was predicted of each page, by libthp and by a plain reading of the kernel's functions, and
-which frames came back."""
+which frames came back.
+
+The plain reading, `given_back`, shares no code with the prediction: mm/huge_memory.c (deferred_split_scan, thp_underused, split_folio),
+mm/migrate.c (try_to_map_unused_to_zeropage).
+"""
 
 from __future__ import annotations
 
@@ -15,7 +19,6 @@ from ..common.subpages import size
 from ..common.text import escape
 from .page_plan import Reason
 from .predictor import Predictor
-from .reference import given_back
 from .rows import label
 from .snapshot import Snapshot
 
@@ -62,6 +65,25 @@ class Result:
         if not self.is_undisturbed:
             return INCONCLUSIVE, "inconclusive: others moved the counters, or the pages weren't held still"
         return (DONE, "exact") if self.are_counters_right else (DIFFERS, "the counters DIFFER")
+
+
+def given_back(folio: Folio, max_ptes_none: int, locked_are_tried: bool = False) -> int | None:
+    """Returns the set of subpages whose frames come back where a reclaim drains the queues; None where the page isn't split.
+    `locked_are_tried`: as before Linux 6.18."""
+    size = 2**folio.order
+    is_zero = [bool(folio.zero >> i & folio.known >> i & 1) for i in range(size)]
+    is_kept = [bool(folio.kept >> i & 1) or folio.is_locked for i in range(size)]
+    is_mapped = [total > 0 for total in folio.totals]
+    if not any(is_mapped):
+        return None
+    if not folio.is_partly:
+        if not folio.is_queued or folio.is_poisoned or (folio.is_locked and not locked_are_tried):
+            return None
+        if max_ptes_none == 511 or sum(is_zero) <= max_ptes_none:
+            return None
+    if folio.pins:
+        return None
+    return sum(1 << i for i in range(size) if not is_mapped[i] or (is_zero[i] and not is_kept[i]))
 
 
 def result_of(
