@@ -1,7 +1,7 @@
 #!/usr/bin/env python3
 """Whether the machine is as before after a tool was ended by SIGINT, SIGTERM and SIGKILL, at ten moments each (root).
 
-    linux/tests/ends.py COMMAND ARGS..      by default: thpreplay with random scripts
+    linux/tests/ends.py COMMAND ARGS..      by default: thpreplay with random scripts; linux/whatif/thpwhatif verify --rounds 9
 
 Compared: every file below the kernel's folder of transparent huge pages that is a setting, the memory control groups,
 and the processes by their names. A line for each signal has the number of moments at which the tool had changed something
@@ -17,8 +17,8 @@ import subprocess
 import sys
 import time
 from dataclasses import dataclass, fields
+from functools import partial
 from pathlib import Path
-from typing import Dict, List, Set, Tuple
 
 ROOT = Path(__file__).resolve().parent.parent.parent
 sys.path.insert(0, str(ROOT))
@@ -38,11 +38,11 @@ NAMES = ("mapper", "workload", "guardian.py")
 class MachineState:
     """What a tool changes, at one moment: settings, control groups, and processes of its own."""
 
-    settings: Dict[str, str]
-    groups: Set[str]
-    processes: List[str]
+    settings: dict[str, str]
+    groups: set[str]
+    processes: list[str]
 
-    def list_changes(self, before: MachineState) -> List[str]:
+    def list_changes(self, before: MachineState) -> list[str]:
         """What isn't as it was."""
         return [each.name for each in fields(self) if getattr(self, each.name) != getattr(before, each.name)]
 
@@ -64,28 +64,20 @@ def read_state() -> MachineState:
     return MachineState(settings, groups, [path.name for path in Path("/proc").glob("[0-9]*") if is_own(path)])
 
 
-def heed_interrupts() -> None:
-    """A shell's background job ignores SIGINT, and so would what it starts."""
-    signal.signal(signal.SIGINT, signal.SIG_DFL)
-
-
 def read_settled_state() -> MachineState:
     """What is there once no tool holds the lock, and its processes have gone, for which they have some seconds."""
     with Keeper("ends", wait=True):
-        pass
-    until = time.monotonic() + PATIENCE
-    state = read_state()
-    while state.processes and time.monotonic() < until:
+        until = time.monotonic() + PATIENCE
+    while (state := read_state()).processes and time.monotonic() < until:
         time.sleep(0.1)
-        state = read_state()
     return state
 
 
-def end_at(command: List[str], sent: signal.Signals, moment: float) -> Tuple[bool, List[str]]:
+def end_at(command: list[str], sent: signal.Signals, moment: float) -> tuple[bool, list[str]]:
     """Ends the tool at a moment: whether it still ran and all is as before, and what it had changed until then."""
     before = read_settled_state()
-    tool = subprocess.Popen(command, cwd=ROOT, stdout=subprocess.DEVNULL, stderr=subprocess.DEVNULL,
-                            preexec_fn=heed_interrupts)
+    default = partial(signal.signal, signal.SIGINT, signal.SIG_DFL)  # a shell's background job ignores it, and so would what it starts
+    tool = subprocess.Popen(command, cwd=ROOT, stdout=subprocess.DEVNULL, stderr=subprocess.DEVNULL, preexec_fn=default)
     time.sleep(moment)
     meanwhile, ended = read_state().list_changes(before), tool.poll()
     tool.send_signal(sent)

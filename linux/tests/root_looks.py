@@ -97,6 +97,14 @@ class Looks(WhatifCase):
         self.assertGreaterEqual(sum(seen.processes[number] == "fuse_holder" for number in owners), HOLDERS // 4)
         self.assertLess(lasted, SECONDS / 2)
 
+    def test_nothing_changes(self) -> None:
+        """Frames, mappings, map counts, contents and queues of pages that forks share are the same after a look."""
+        with self.pages.run("forks", 32, 2) as number:
+            before = look(number)
+            self.check(Call(["now", "--pid", str(number)]), DONE)
+            self.assertEqual(look(number).folios, before.folios)
+        self.assertGreaterEqual(len(before.folios), 16)
+
     def test_gone(self) -> None:
         """The memory of a process whose first thread has ended is seen."""
         with self.pages.run("gone", 16) as number:

@@ -79,15 +79,16 @@ class Watching(unittest.TestCase):
         self.assertEqual(row, ["0", "4.0", "+2.0", "1.0", "4.0", "2.3", "<-", "today"])
 
     def test_rounds_and_lines(self) -> None:
-        out, looks = io.StringIO(), iter([512, 256])
+        out, looks = io.StringIO(), iter([(512, 7), (256, 10)])
 
         def look() -> Report:
-            return Report([Snapshot([], {}, Counter(), note="a note")], [Row(0, 4, 1, 1, 0, next(looks))])
+            frames, collapsed = next(looks)
+            return Report([Snapshot([], {}, Counter(), note="a note", collapsed=collapsed)], [Row(0, 4, 1, 1, 0, frames)])
 
         self.assertEqual(watch(look, 0.01, 2, out), 0)
         lines = out.getvalue().split("\n")
-        wanted = [f"4 pages; MiB back: 0 {mebibytes}; a note" for mebibytes in ("2.0", "1.0")]
-        self.assertEqual([line[9:] for line in lines[:2]], wanted)
+        self.assertEqual(lines[0][9:], "4 pages; MiB back: 0 2.0; a note")
+        self.assertEqual(lines[1][9:], "4 pages; MiB back: 0 1.0; a note; khugepaged collapsed 3 huge pages since the last look")
         self.assertEqual((lines[2], line_of([])), ("look 2", "0 pages; MiB back: "))
 
     def test_json_lines(self) -> None:

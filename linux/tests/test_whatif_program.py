@@ -11,7 +11,7 @@ from pathlib import Path
 from unittest import mock
 
 from ..common import helpers
-from ..common.errors import Unavailable
+from ..common.errors import InputFault, Unavailable
 from ..whatif import program
 from ..whatif.options import parser
 from ..whatif.predictor import Library, load_library
@@ -32,10 +32,18 @@ class Program(unittest.TestCase):
             (("nothing",), "invalid choice"),
             (("what-if",), "FILE"),
             (("what-if", KNOWN, "--thresholds", "512"), "'512'"),
-            (("target", "0", "x"), "'0' is no number from 0.001 to"),
+            (("target", "0", "x"), "'0' is no size from 0.001 to"),
+            (("target", "5XB", "x"), "'5XB' is no size from 0.001 to"),
+            (("now", "--all", "--pid", "1"), "--all selects every process"),
             (("watch", "0", "--all"), "SECONDS"),
         ):
             self.refused(2, told, *words)
+
+    def test_sizes(self) -> None:
+        for text, size in (("500", 500), ("0.5", 0.5), ("5G", 5120), ("5GiB", 5120), ("5GB", 5e9 / 2**20), ("2T", 2 << 20), ("1MiB", 1)):
+            self.assertAlmostEqual(parser().parse_args(["target", text]).mebibytes, size)
+        for text in ("", "G", "5K", "5gb", "5 G", "-5", "1e3", "nan", "5GIB"):
+            self.assertRaises(InputFault, parser().parse_args, ["now", "--memory", text])
 
     def test_another_user_is_reported_in_one_line(self) -> None:
         for words in (("snapshot", "--all"), ("watch", "1", "--all"), ("verify",)):

@@ -15,7 +15,7 @@ from typing import Callable, Iterable
 
 from ..common import proc
 from ..common.errors import InputFault, Unavailable
-from ..common.files import BASE, PMD_ORDER, PTES_NONE, read
+from ..common.files import BASE, PMD_ORDER, PTES_NONE, THP, read
 from ..common.folios import Folio, even_counts
 from ..common.groups import checked_group, find_hierarchy
 from ..common.kernel_library import STATES, PageState
@@ -26,6 +26,8 @@ from ..common.reader import HIDDEN, MEMORY, Progress, Reader
 from ..common.second_look import Changes, SecondLook
 from ..common.text import escape
 from .snapshot import Snapshot, Sums
+
+COLLAPSED = f"{THP}/khugepaged/pages_collapsed"
 
 
 @dataclass
@@ -130,8 +132,14 @@ class SnapshotTaker:
             sampled=changes.sampled,
             changed=changes.changed,
             spent=dict(reader.spent),
-            today=int(read(PTES_NONE)) if os.path.exists(PTES_NONE) else None,
+            today=number_in(PTES_NONE),
+            collapsed=number_in(COLLAPSED),
         )
+
+
+def number_in(path: str) -> int | None:
+    """Returns the number in a file of the kernel, if it has the file."""
+    return int(read(path)) if os.path.exists(path) else None
 
 
 def names_of_groups(wanted: set[int]) -> dict[int, str]:

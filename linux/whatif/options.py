@@ -3,9 +3,12 @@
 from __future__ import annotations
 
 import argparse
+import re
+from typing import Callable
 
 from ..common.arguments import OneLineParser, seconds, tool_parser, whole
 from ..common.reader import MEMORY
+from ..common.text import escape
 from .rows import thresholds_of
 from .snapshot import NAME
 
@@ -16,12 +19,27 @@ MOST_MEMORY = 1 << 20  # MiB
 MOST_FREED = 1e9  # MiB
 
 
+def mebibytes(low: float, high: float) -> Callable[[str], float]:
+    """Returns a type for sizes in MiB: a number of MiB, or one with a unit: M, G, T, MiB, GiB, TiB by 1024, MB, GB, TB by 1000."""
+
+    def parse(text: str) -> float:
+        found = re.fullmatch(r"([0-9]{1,12}(?:\.[0-9]{1,12})?)([MGT](?:iB|B)?)?", text)
+        unit = found[2] or "M" if found else "M"
+        base = 1000.0 if unit[1:] == "B" else 1024.0
+        size: float = float(found[1]) * base ** (2 + "MGT".index(unit[0])) / 2**20 if found else 0.0
+        if not low <= size <= high:
+            raise argparse.ArgumentTypeError(f"{escape(text)[:40]!r} is no size from {low:g} to {high:g} MiB (500, 1.5G, 5GiB, 5GB)")
+        return size
+
+    return parse
+
+
 def parser() -> argparse.ArgumentParser:
     """Returns all commands and their options."""
     top = tool_parser(NAME, "What would the shrinker of transparent huge pages give back now?")
     commands = top.add_subparsers(dest="command", required=True, metavar="COMMAND", parser_class=OneLineParser)
     memory, kernel, thresholds, as_json = (OneLineParser(add_help=False) for _ in range(4))  # of several commands
-    memory.add_argument("--memory", type=whole(1, MOST_MEMORY), default=MEMORY, metavar="MIB", help="the limit of memory")
+    memory.add_argument("--memory", type=mebibytes(1, MOST_MEMORY), default=MEMORY, metavar="MIB", help="the limit of memory")
     about = "guess queues and pins instead of reading them"
     kernel.add_argument("--no-kernel", dest="with_kernel", action="store_false", help=about)
     about = "off and numbers from 0 to 511, joined by commas"
@@ -45,7 +63,7 @@ def parser() -> argparse.ArgumentParser:
     what_if = commands.add_parser("what-if", parents=[memory, tables], help="the table of what snapshot wrote")
     what_if.add_argument("files", nargs="+", metavar="FILE", help="of snapshot; - is standard input")
     target = commands.add_parser("target", parents=[choice, as_json], help="the highest threshold that gives back so much")
-    target.add_argument("mebibytes", type=seconds(0.001, MOST_FREED), metavar="MIB")
+    target.add_argument("mebibytes", type=mebibytes(0.001, MOST_FREED), metavar="MIB", help="or with a unit: 5G, 5GB")
     target.add_argument("files", nargs="*", metavar="FILE", help="of snapshot; else --pid, --cgroup or --all")
     about = "look again and again, and print how the rows change"
     watching = commands.add_parser("watch", parents=[choice, thresholds, as_json], help=about)
@@ -67,7 +85,7 @@ def add_policies(words: argparse.ArgumentParser) -> None:
     words.add_argument("--scan", default="recorded,never", metavar="LIST", help=when)
     words.add_argument("--take", default="recorded", metavar="N", help="pages that a scan takes: recorded, all, a number")
     words.add_argument("--times", action="append", metavar="FILE", help="of a journal: seconds of each event; repeatable")
-    words.add_argument("--best", type=seconds(0.001, MOST_FREED), metavar="MIB", help="fewest splits within so much memory")
+    words.add_argument("--best", type=mebibytes(0.001, MOST_FREED), metavar="MIB", help="fewest splits within so much memory")
     words.add_argument("--checker", metavar="PATH", help="the thpcheck to run")
 
 

@@ -40,7 +40,7 @@ CHUNK = 1 << 15  # events that are in memory
 LATEST = 1e10  # seconds
 HEAD = {
     "threshold": "threshold", "scans": "scans", "takes": "takes", "split": "pages split", "failed": "failed", "frames_back": "frames back",
-    "mebibytes_back": "MiB back", "peak_mebibytes": "peak MiB",
+    "mebibytes_back": "MiB back", "peak_mebibytes": "peak MiB", "mean_mebibytes": "mean MiB",
 }
 """The headings of a table, by the names of JSON."""
 HOUR = 3600.0
@@ -99,7 +99,9 @@ def outcome(policy: Policy, nodes: Sequence[Sums], timed: bool) -> dict[str, Any
         "huge_at_end": total("huge"),
         "calls_changed": total("changed"),
     }
-    return {**out, "mebibyte_hours": round(total("held") / FRAMES_A_MEBIBYTE / HOUR, 6)} if timed else out
+    if timed:
+        out.update(seconds=round(seconds, 6), mebibyte_hours=round(total("held") / FRAMES_A_MEBIBYTE / HOUR, 6))
+    return out
 
 
 def parse_threshold(text: str) -> str:
@@ -262,15 +264,14 @@ def try_policies(policies: Sequence[Policy], recordings: Sequence[Recording], ti
     return [outcome(policy, [sums[place] for sums in nodes], timed) for place, policy in enumerate(policies)]
 
 
-def policy_table(outcomes: Sequence[dict[str, Any]], timed: bool) -> str:
-    """Returns a line for each policy."""
-    heads = {**HEAD, **({"mebibyte_hours": "MiB x hours"} if timed else {"mean_mebibytes": "mean MiB"}), "huge_at_end": "huge at end"}
+def policy_table(outcomes: Sequence[dict[str, Any]]) -> str:
+    """Returns a line for each policy. MiB x hours are in it where the recording has hours."""
+    heads = {**HEAD, "huge_at_end": "huge at end"}
+    if max(each.get("seconds", 0.0) for each in outcomes) >= HOUR:
+        heads["mebibyte_hours"] = "MiB x hours"
     lines: list[list[object]] = [list(heads.values())]
     for each in outcomes:
-        shown = {**each, "takes": "-" if each["scans"] == NEVER else each["takes"]}
-        if timed:
-            shown["mebibyte_hours"] = f"{each['mebibyte_hours']:.3f}"
-        lines.append([shown[name] for name in heads])
+        lines.append([{**each, "takes": "-" if each["scans"] == NEVER else each["takes"]}[name] for name in heads])
     return aligned(lines, 3)
 
 

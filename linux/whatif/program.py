@@ -56,6 +56,8 @@ def choose(options: argparse.Namespace) -> ProcessChoice:
     """Returns what is to be looked at. InputFault where nothing is selected, Unavailable where nothing can be looked at."""
     if not (options.pid or options.cgroup or options.all):
         raise InputFault(f"{options.command} needs --pid, --cgroup or --all (--help has the options)")
+    if options.all and (options.pid or options.cgroup):
+        raise InputFault("--all selects every process: without --pid and --cgroup")
     demand_root()
     return ProcessChoice(options.pid, options.cgroup, options.all)
 
@@ -68,7 +70,7 @@ def taker(options: argparse.Namespace) -> SnapshotTaker:
         if sys.stderr.isatty() and options.command != "watch" and time.monotonic() - began > SLOW:
             print(f"\r{what}: {done} of {of}\033[K", end="\n" if done == of else "", file=sys.stderr, flush=True)
 
-    return SnapshotTaker(options.orders, options.with_kernel, options.queued == "all", options.memory, show)
+    return SnapshotTaker(options.orders, options.with_kernel, options.queued == "all", int(options.memory), show)
 
 
 def take_snapshots(options: argparse.Namespace, choice: ProcessChoice | None) -> list[Snapshot]:
@@ -77,7 +79,7 @@ def take_snapshots(options: argparse.Namespace, choice: ProcessChoice | None) ->
         return [taker(options).take(choice)]
     from .stored import StoredReader
 
-    reader = StoredReader(options.memory)
+    reader = StoredReader(int(options.memory))
     return [reader.read(path) for path in options.files]
 
 
@@ -217,7 +219,7 @@ def command_policies(options: argparse.Namespace) -> int:
         out = {"policies": outcomes, "contents_recorded": has_contents, **({"best": best} if options.best else {})}
         print(json.dumps(out, indent=1))
         return DONE
-    print(policy_table(outcomes, is_timed))
+    print(policy_table(outcomes))
     if not has_contents:
         print("no contents are recorded: each subpage counts as zero-filled, so each number splits the same pages")
     if options.best:

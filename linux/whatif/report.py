@@ -17,9 +17,10 @@ HEAD = {
     "frames_back": "frames back", "mebibytes_back": "MiB back", "kept": "pages kept",
 }
 """The headings of a table, by the names of JSON."""
-WIDTH, HEIGHT, LEFT, RIGHT, TOP, BOTTOM = 720, 360, 64, 16, 40, 56
+WIDTH, HEIGHT, LEFT, RIGHT, TOP, BOTTOM = 720, 384, 64, 16, 40, 80
 STEPS = 5  # of the axis
 PARTLY, UNDERUSED, TODAY = "#4c78a8", "#f58518", "#e45756"
+LEGEND = {PARTLY: "partly mapped pages", UNDERUSED: "underused ones, too", TODAY: "the machine's setting"}
 
 
 @dataclass
@@ -192,4 +193,7 @@ def picture(rows: Sequence[Row], today: int | None) -> str:
         out.append(text_at(LEFT - 8, y + 4, f"{most * number / STEPS:g}", "end"))
     for index, row in enumerate(rows):
         out += bar(row, LEFT + step * (index + 0.15), step * 0.7, height * row.mebibytes / most, row.threshold == today)
+    for place, (colour, words) in enumerate(LEGEND.items()):
+        out.append(f'<rect x="{LEFT + 150 * place}" y="{HEIGHT - 20}" width="10" height="10" fill="{colour}"/>')
+        out.append(text_at(LEFT + 150 * place + 16, HEIGHT - 11, words, "start"))
     return "\n".join([*out, "</svg>\n"])

@@ -39,6 +39,7 @@ class Snapshot:
     others: int = 0  # anonymous base pages that aren't huge
     sums: Sums = field(default_factory=Sums)
     today: int | None = None  # max_ptes_none of the machine
+    collapsed: int | None = None  # huge pages that khugepaged has made since the machine's start
     kernel: str = ""
     at: str = ""
     sampled: int = 0  # pages that were read twice

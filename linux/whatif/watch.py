@@ -62,18 +62,21 @@ def watch(look: Callable[[], Report], seconds: float, rounds: int, out: TextIO =
     table is drawn over; otherwise each look is a line, and the table is printed at the end. `as_json`: each look is a JSON object on a
     line, and nothing else is printed."""
     seen, today, status = Watch(), None, DONE
+    former: int | None = None  # pages collapsed until the look before
     draws = out.isatty() and not as_json
     try:
         while not rounds or seen.looks < rounds:
             began = time.monotonic()
             one = look()
             seen.add(one.rows)
-            today, status = one.today, one.status
-            text = f"{time.strftime('%H:%M:%S')} " + "; ".join([line_of(one.rows), *one.notes()])
+            today, status, collapsed = one.today, one.status, one.snapshots[0].collapsed
+            since = None if collapsed is None or former is None else collapsed - former
+            former, notes = collapsed, [*one.notes(), *([f"khugepaged collapsed {since} huge pages since the last look"] if since else [])]
+            text = f"{time.strftime('%H:%M:%S')} " + "; ".join([line_of(one.rows), *notes])
             if as_json:
-                text = json.dumps({"look": seen.looks, **one.to_json(), "notes": one.notes()})
+                text = json.dumps({"look": seen.looks, **one.to_json(), "collapsed": since, "notes": notes})
             elif draws:
-                text = CLEAR + "\n".join([seen.table(today), *one.notes()])
+                text = CLEAR + "\n".join([seen.table(today), *notes])
             print(text, file=out, flush=True)
             if seen.looks != rounds:
                 time.sleep(max(0.0, seconds - (time.monotonic() - began)))
