@@ -20,7 +20,7 @@ from ..whatif.predictor import Predictor, load_library
 from ..whatif.rows import OFF
 from ..whatif.snapshot import Snapshot
 from ..whatif.stored import StoredReader
-from ..whatif.trial import Result, count_result, given_back, trial_lines
+from ..whatif.trial import TrialResult, count_result, given_back, trial_lines
 from .whatif_samples import LACKING, NEEDS_LIBRARY, TRIALS, any_folio, folio, holed_folio
 
 FULL = bits_of(0, 512)
@@ -251,12 +251,12 @@ class Trials(unittest.TestCase):
                 self.assertIn(one.problem, trial_lines(5, one)[0])
 
 
-def result_of(added: int, **facts: Any) -> Result:
+def result_of(added: int, **facts: Any) -> TrialResult:
     """A trial of one page that is split as underused, as predicted; the kernel's counter of splits moved by so many."""
     page = folio(0, zero=15)
     given, statistics = {page.frame: 15}, {Statistic.SPLIT: added, Statistic.UNDERUSED: 1, Statistic.SPLIT_FAILED: 0}
     values: dict[str, Any] = {"unscripted": {}, "predicted": given, "plain": given, "returned": given, "added": statistics, **facts}
-    return Result(look([page]), {page.frame: page}, 1, **values)
+    return TrialResult(look([page]), {page.frame: page}, 1, **values)
 
 
 def is_predictable(page: Folio) -> bool:

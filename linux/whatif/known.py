@@ -27,7 +27,7 @@ PR_SET_PDEATHSIG = 1  # include/uapi/linux/prctl.h
 LIBC = ctypes.CDLL(None)
 
 
-class Page:
+class KnownPage:
     """A huge page of an order in an area of its own; where none could be had, base pages."""
 
     def __init__(self, order: int) -> None:
@@ -54,7 +54,7 @@ def end_with_parent() -> None:
     LIBC.prctl(PR_SET_PDEATHSIG, signal.SIGKILL)
 
 
-def fork(page: Page, count: int) -> None:
+def fork(page: KnownPage, count: int) -> None:
     """Makes a child that maps all pages, too, and stays; it gives some subpages of one up before this returns."""
     reader, writer = os.pipe()
     if os.fork():
@@ -73,10 +73,10 @@ def fork(page: Page, count: int) -> None:
         os._exit(1)
 
 
-def make_page(chance: random.Random) -> Page:
+def make_page(chance: random.Random) -> KnownPage:
     """Returns a page with data, except in some subpages, which are one run or scattered; then things befall it."""
     order = chance.choice(ORDERS)
-    page, size = Page(order), 1 << order
+    page, size = KnownPage(order), 1 << order
     zero = chance.choice(EDGES) if order == PMD_ORDER else chance.randrange(size + 1)
     first = chance.randrange(size - zero + 1)
     zeros = range(first, first + zero) if chance.random() < 0.5 else chance.sample(range(size), zero)
@@ -103,7 +103,7 @@ def make_page(chance: random.Random) -> Page:
     return page
 
 
-def change_pages(chance: random.Random, pages: list[Page], micros: int) -> None:
+def change_pages(chance: random.Random, pages: list[KnownPage], micros: int) -> None:
     """Writes, clears and drops subpages, for ever."""
     while True:
         page, what = chance.choice(pages), chance.randrange(8)
@@ -122,7 +122,7 @@ def main(seed: str, count: int, micros: int) -> None:
     signal.signal(signal.SIGCHLD, signal.SIG_IGN)
     chance = random.Random(seed)
     if micros:
-        pages = [Page(PMD_ORDER) for _ in range(count)]
+        pages = [KnownPage(PMD_ORDER) for _ in range(count)]
         print("ready", flush=True)
         change_pages(chance, pages, micros)
     looked, pages = chance.choice((0, count // 3)), []

@@ -32,7 +32,8 @@ WORDS = {word: number for number, word in enumerate(
     b"alloc close mapwhole unmapwhole mapsub unmapsub splitpmd pin unpin write zero taken split pinned used back dropped".split()
 )}
 """Of events, as policies.c numbers them."""
-RANGES, CONTENTS = (b"mapsub", b"unmapsub", b"write", b"zero"), (b"write", b"zero")
+CONTENTS = WORDS[b"write"], WORDS[b"zero"]
+RANGES = WORDS[b"mapsub"], WORDS[b"unmapsub"], *CONTENTS
 EVENT = struct.Struct("=dQHHBB2x")  # struct event of policies.c
 NODE = re.compile(rb"node [0-7] blocks ([0-9]{1,4})(?: order ([2-9]))?(?: underused (off|[0-9]{1,3}))?\n")
 MOST = (1 << 32) - 1  # of policies.c: no threshold; as many pages as are queued
@@ -68,7 +69,7 @@ class Policy:
         return MOST if threshold == OFF else int(threshold), WHEN.index(self.when), amount, int(self.take) if take is None else take
 
 
-class Sums(ctypes.Structure):
+class PolicySums(ctypes.Structure):
     """What a policy gives on a node (struct sums of policies.c). Frames are base pages; `held` is their sum by seconds (events, where
     times aren't known)."""
 
@@ -78,7 +79,7 @@ class Sums(ctypes.Structure):
     ]
 
 
-def outcome(policy: Policy, nodes: Sequence[Sums], timed: bool) -> dict[str, Any]:
+def outcome_of(policy: Policy, nodes: Sequence[PolicySums], timed: bool) -> dict[str, Any]:
     """Returns what a policy gives on all nodes of the journals, which are used at the same time."""
 
     def total(name: str) -> Any:
@@ -170,7 +171,7 @@ def check_time(at: float | None, before: float) -> float:
     return at
 
 
-class Recording:
+class RecordedJournal:
     """A legal journal, and the times of its events, if they are known. InputFault where it is no journal, IllegalJournal where it isn't
     legal."""
 
@@ -190,37 +191,35 @@ class Recording:
         return f"{self._name}: line {line}"
 
     def parts(self) -> Iterator[tuple[re.Match[bytes] | None, int, bytes]]:
-        """Yields the events in parts: the head of their node, the line of the first one, and the packed events. None: the end."""
+        """Yields the events in parts: the head of their node, the line of the first one, and the packed events. None: the end. InputFault
+        where a line is none, though the check has found it to be one: the file has changed."""
         self._journal.seek(0)
         times: Iterator[float] = map(time_of, self._times) if self._times else map(float, count())
         head, first, at, part = None, 0, 0.0, bytearray()
         for number, line in enumerate(self._journal, 1):
-            found = NODE.fullmatch(line) if line.startswith(b"node ") else None
-            if head and (found or line == b"end\n" or len(part) == CHUNK * EVENT.size):
+            words = line.split()
+            word = WORDS.get(words[1]) if len(words) > 1 else None
+            if head and (word is None or len(part) == CHUNK * EVENT.size):
                 yield head, first, bytes(part)
                 part, first = bytearray(), number
-            if found:
-                head, first, at = found, number + 1, 0.0
-            elif head and line != b"end\n":
-                try:
-                    at = check_time(next(times, None), at)
-                    part += self._pack(line, at)
-                except (ValueError, IndexError, KeyError, struct.error) as error:
-                    raise InputFault(f"{self.place(number)}: {error}") from error
+            if word is None:  # a node, or the first line, or the last one
+                head, first, at = NODE.fullmatch(line), number + 1, 0.0
+                continue
+            try:
+                if not head:
+                    raise ValueError("it is in no node")
+                at = check_time(next(times, None), at)
+                page, begin, size = words[2:5] if word in RANGES else (*(words[2:3] or [b"0"]), b"0", b"0")
+                part += EVENT.pack(at, int(page), int(begin), int(size), int(words[0]), word)
+            except (ValueError, struct.error) as error:
+                raise InputFault(f"{self.place(number)}: {error}") from error
+            self.has_contents |= word in CONTENTS
         if self._times and self._times.read(1):
             raise InputFault(f"{self.place(number)}: there are more times than events")
         yield None, number, b""
 
-    def _pack(self, line: bytes, at: float) -> bytes:
-        """Returns an event as policies.c has it. An error where it isn't one, as the check has found: the file has changed."""
-        words = line[:-1].split(b" ")
-        word, page = words[1], words[2] if len(words) > 2 else b"0"
-        first, size = words[3:5] if word in RANGES else (b"0", b"0")
-        self.has_contents |= word in CONTENTS
-        return EVENT.pack(at, int(page), int(first), int(size), int(words[0]), WORDS[word])
 
-
-class Run:
+class PolicyRun:
     """A node of libthp under a policy (struct run of policies.c). RunFailed where there is no memory for it."""
 
     def __init__(self, policy: Policy, head: re.Match[bytes]) -> None:
@@ -236,32 +235,32 @@ class Run:
         code = self._calls.follow_events(self._run, events, len(events) // EVENT.size, ctypes.byref(place))
         return code, place.value
 
-    def end(self) -> Sums:
+    def end(self) -> PolicySums:
         """Ends it, and returns its numbers."""
-        sums = Sums()
+        sums = PolicySums()
         self._calls.end_run(self._run, ctypes.byref(sums))
         return sums
 
 
-def repeat(recording: Recording, policies: Sequence[Policy], pool: ThreadPoolExecutor) -> Iterator[list[Sums]]:
+def repeat(recording: RecordedJournal, policies: Sequence[Policy], pool: ThreadPoolExecutor) -> Iterator[list[PolicySums]]:
     """Repeats the calls of a recording under all policies, side by side. Yields for each node what each policy gives. RunFailed where
     libthp refuses a call."""
-    node, runs = None, list[Run]()
+    node, runs = None, list[PolicyRun]()
     for head, first, events in recording.parts():
         if head is not node:
             if runs:
                 yield [run.end() for run in runs]
-            node, runs = head, [Run(policy, head) for policy in policies if head]
-        for code, place in pool.map(Run.follow, runs, [events] * len(runs)):
+            node, runs = head, [PolicyRun(policy, head) for policy in policies if head]
+        for code, place in pool.map(PolicyRun.follow, runs, [events] * len(runs)):
             if code:
                 raise RunFailed(f"{recording.place(first + place)}: {load_library().words(code)}")
 
 
-def try_policies(policies: Sequence[Policy], recordings: Sequence[Recording], timed: bool) -> list[dict[str, Any]]:
+def try_policies(policies: Sequence[Policy], recordings: Sequence[RecordedJournal], timed: bool) -> list[dict[str, Any]]:
     """Returns what each policy gives, as JSON objects. As many as there are processors are tried at a time."""
     with ThreadPoolExecutor(len(os.sched_getaffinity(0))) as pool:
         nodes = [sums for recording in recordings for sums in repeat(recording, policies, pool)]
-    return [outcome(policy, [sums[place] for sums in nodes], timed) for place, policy in enumerate(policies)]
+    return [outcome_of(policy, [sums[place] for sums in nodes], timed) for place, policy in enumerate(policies)]
 
 
 def policy_table(outcomes: Sequence[dict[str, Any]]) -> str:

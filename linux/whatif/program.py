@@ -197,7 +197,7 @@ def command_verify(options: argparse.Namespace) -> int:
 def command_policies(options: argparse.Namespace) -> int:
     """Tries policies on journals."""
     from ..common.checker import find_checker
-    from .policies import IllegalJournal, Recording, best_line, best_of, policies_of, policy_table, try_policies
+    from .policies import IllegalJournal, RecordedJournal, best_line, best_of, policies_of, policy_table, try_policies
 
     policies, is_timed = policies_of(options.threshold, options.scan, options.take), bool(options.times)
     times: Sequence[str | None] = options.times or [None] * len(options.journals)
@@ -208,7 +208,7 @@ def command_policies(options: argparse.Namespace) -> int:
     load_library()
     checker = find_checker(options.checker)
     try:
-        recordings = [Recording(path, file, checker) for path, file in zip(options.journals, times)]
+        recordings = [RecordedJournal(path, file, checker) for path, file in zip(options.journals, times)]
     except IllegalJournal as error:
         print(f"{NAME}: {error}", file=sys.stderr)
         return DIFFERS

@@ -132,7 +132,7 @@ FIELDS = reads_of(
 )
 
 
-def plain(value: Any) -> dict[str, Any]:
+def object_of(value: Any) -> dict[str, Any]:
     """Returns a huge page, or sums, as a JSON object."""
     out = dict(vars(value))
     if isinstance(value, Folio):
@@ -145,12 +145,12 @@ def plain(value: Any) -> dict[str, Any]:
 def json_parts(snapshot: Snapshot) -> Iterator[str]:
     """Yields the JSON text of a snapshot in lines. The first one has all but the sections."""
     rest = {name: value for name, value in vars(snapshot).items() if name not in SECTIONS}
-    yield json.dumps({**rest, "version": VERSION}, default=plain)[:-1] + "\n"
+    yield json.dumps({**rest, "version": VERSION}, default=object_of)[:-1] + "\n"
     for name, brackets in SECTIONS.items():
         yield f',"{name}": {brackets[0]}\n'
         values = getattr(snapshot, name)
         for left, each in zip(reversed(range(len(values))), values):
-            entry = json.dumps({each: values[each]} if brackets == "{}" else [each], default=plain)
+            entry = json.dumps({each: values[each]} if brackets == "{}" else [each], default=object_of)
             yield entry[1:-1] + (",\n" if left else "\n")
         yield f"{brackets[1]}\n"
     yield "}\n"

@@ -24,7 +24,7 @@ from .snapshot import Snapshot
 
 
 @dataclass
-class Result:
+class TrialResult:
     """What a trial found: the frames that come back of each split page, by frame: predicted by libthp (`predicted`) and
     by the plain reading (`plain`), and those that the kernel returned (`returned`)."""
 
@@ -88,7 +88,7 @@ def given_back(folio: Folio, max_ptes_none: int, locked_are_tried: bool = False)
 
 def result_of(
     snapshot: Snapshot, threshold: int, returned: dict[int, int], moved: set[int], added: dict[Statistic, int]
-) -> Result:
+) -> TrialResult:
     """Returns what a trial found, given the frames that came back by page, the pages that were moved, and what was added to the
     kernel's counters."""
     predictor = Predictor(snapshot)
@@ -99,7 +99,7 @@ def result_of(
     unscripted = {frame: given for frame, given in returned.items() if frame not in folios}
     differing = {frame for frame in folios if predicted.get(frame) != own.get(frame)}
     underused = predictor.run([threshold])[0].underused
-    result = Result(snapshot, folios, underused, predicted, plain, own, unscripted, added)
+    result = TrialResult(snapshot, folios, underused, predicted, plain, own, unscripted, added)
     result.differing, result.moved = sorted(differing - moved), len(differing & moved)
     return result
 
@@ -135,7 +135,7 @@ def count_subpages(sets: dict[int, int]) -> int:
     return sum(map(size, sets.values()))
 
 
-def count_result(sums: Counter[str], result: Result) -> None:
+def count_result(sums: Counter[str], result: TrialResult) -> None:
     """Adds a trial to the sums that are printed at the end."""
     status = result.verdict[0]
     sums["trials"] += 1
@@ -155,7 +155,7 @@ def count_result(sums: Counter[str], result: Result) -> None:
     sums["pages found changed between two looks"] += result.snapshot.changed
 
 
-def trial_lines(threshold: int, result: Result) -> list[str]:
+def trial_lines(threshold: int, result: TrialResult) -> list[str]:
     """Returns a line of a trial, and one for each of the first pages that differ."""
     counted = ", ".join(f"{name.value} {result.added[name]} of {count}" for name, count in result.statistics().items())
     lines = [

@@ -38,7 +38,7 @@ from .look import ProcessChoice, SnapshotTaker
 from .rows import OFF, label
 from .snapshot import NAME
 from .stored import json_parts
-from .trial import Result, count_result, find_returned, result_of, trial_lines
+from .trial import TrialResult, count_result, find_returned, result_of, trial_lines
 
 THRESHOLDS = (OFF, 0, 1, 16, 32, 64, 128, 256, 409, 500, 510)
 SMALL_ORDERS = (4, 6)
@@ -60,7 +60,7 @@ def settings(task: argparse.Namespace) -> dict[str, object]:
     return out
 
 
-class Bench:
+class TrialBench:
     """The machine, set for trials."""
 
     def __init__(self, keeper: Keeper, task: argparse.Namespace, user: User) -> None:
@@ -72,7 +72,7 @@ class Bench:
         self.taker = SnapshotTaker(with_small=True, with_kernel=task.with_kernel)
         self._made = 0
 
-    def trial(self, threshold: int, seed: str) -> Result:
+    def trial(self, threshold: int, seed: str) -> TrialResult:
         """Makes one trial on new pages."""
         self._made += 1
         is_held = bool((self.task.words or self.task.change) and not self.task.running)
@@ -180,7 +180,7 @@ def verify(task: argparse.Namespace, user: User) -> int:
     folder, waits = OwnFolder(task.keep) if task.keep else None, task.wait
     while todo:
         with Keeper(NAME, waits) as keeper:
-            bench, until = Bench(keeper, task, user), time.monotonic() + TURN
+            bench, until = TrialBench(keeper, task, user), time.monotonic() + TURN
             if not sums:
                 print("set meanwhile, and put back: " + ", ".join(settings(task)), flush=True)
                 if bench.taker.lacking:
@@ -204,7 +204,7 @@ def verify(task: argparse.Namespace, user: User) -> int:
     return DONE if sums["trials exact"] == sums["trials"] else INCONCLUSIVE
 
 
-def keep(folder: OwnFolder, name: str, result: Result) -> None:
+def keep(folder: OwnFolder, name: str, result: TrialResult) -> None:
     """Writes what was seen before and after a trial, so that it can be checked again: a stored snapshot, and the frames that came back
     by the page's first frame, as hexadecimal sets."""
     returned = {frame: format(given, "x") for frame, given in {**result.returned, **result.unscripted}.items()}
