@@ -88,7 +88,7 @@ class Predictor:
                 try:
                     number = self._number(folio, snapshot.locked_are_tried)
                 except NotPredictable as why:
-                    snapshot.left_out[why.reason.value] += 1
+                    snapshot.left_out[str(why)] += 1
                     continue
                 self.folios.append(folio)
                 self.plans.append(number)

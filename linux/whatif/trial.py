@@ -17,7 +17,7 @@ from ..common.folios import Folio
 from ..common.page_files import Frames, PageFlag, TooShort, frames_at
 from ..common.subpages import size
 from ..common.text import escape
-from .page_plan import Reason
+from .page_plan import LAZILY_FREED
 from .predictor import Predictor
 from .rows import label
 from .snapshot import Snapshot
@@ -149,7 +149,7 @@ def count_result(sums: Counter[str], result: TrialResult) -> None:
     sums["frames predicted"] += count_subpages(result.predicted)
     sums["frames that came back"] += count_subpages(result.returned)
     sums["pages that were left out"] += sum(result.snapshot.left_out.values())
-    sums["  of these given to MADV_FREE"] += result.snapshot.left_out[Reason.LAZILY_FREED.value]
+    sums["  of these given to MADV_FREE"] += result.snapshot.left_out[LAZILY_FREED]
     sums["  of these split or dropped"] += len(result.unscripted)
     sums["  and their frames"] += count_subpages(result.unscripted)
     sums["pages found changed between two looks"] += result.snapshot.changed
