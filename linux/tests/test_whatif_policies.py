@@ -62,6 +62,18 @@ end
 """A page that another policy splits at once: calls of PMD mappings follow."""
 
 
+SPLIT_THERE = """thp-journal 3
+node 0 blocks 1 order 4 underused 15
+0 alloc 0
+0 taken 0
+0 split 0 0-15
+0 unmapsub 0 0 8 stays -
+0 unmapsub 0 8 8 freed -
+end
+"""
+"""A small page that the kernel splits, all zeros: calls of PTE mappings follow."""
+
+
 PINNED = """thp-journal 1
 node 0 blocks 1
 0 alloc 0
@@ -131,6 +143,7 @@ class Runs(unittest.TestCase):
         self.assertEqual((by_events["scans_done"], by_events["split"], by_events["frames_back"]), (1, 2, 384))
         # page 0 is split when the second one comes; then 3 MiB are held
         self.assertEqual((by_memory["scans_done"], by_memory["split"], by_memory["frames_back"]), (1, 1, 256))
+        self.assertEqual(by_memory["peak_mebibytes"], 3.0)
 
     def test_scans_by_time(self) -> None:
         for every, times in (("30", [100, 100.5, 101, 101.5, 160, 161, 200, 201, 202, 203]), ("0.001", [*range(9), LATEST])):
@@ -172,9 +185,20 @@ class Runs(unittest.TestCase):
         rows = self.numbers(CONTENTS, "--threshold", "recorded,411,412,off", "--scan", "recorded")
         self.assertEqual([row[:3] for row in rows], [(0, 0, 0), (1, 0, 412), (0, 0, 0), (0, 0, 0)])
 
-    def test_a_page_split_early_takes_calls_of_its_subpages(self) -> None:
-        row = self.numbers(SPLIT_EARLY, "--threshold", "0", "--scan", "events:2", "--take", "all")[0]
-        self.assertEqual(row, (1, 0, 512, 0, 4))
+    def test_pages_that_are_split_here_or_there_alone(self) -> None:
+        for text, words, row in (
+            (SPLIT_EARLY, ("--threshold", "0", "--scan", "events:2", "--take", "all"), (1, 0, 512, 0, 4)),
+            (SPLIT_THERE, ("--scan", "never"), (0, 0, 0, 0, 1)),
+            (SPLIT_THERE, ("--threshold", "15", "--scan", "recorded"), (1, 0, 16, 0, 0)),
+            (SPLIT_THERE, ("--threshold", "16", "--scan", "recorded"), (0, 0, 0, 0, 1)),
+        ):
+            self.assertEqual(self.numbers(text, *words), [row], words)
+
+    def test_more_pages_than_a_batch_holds(self) -> None:
+        begin = "".join(f"0 alloc {page}\n0 splitpmd {page}\n0 unmapsub {page} 0 1 queued -\n" for page in range(131))
+        scan = "".join(f"0 taken {page}\n" for page in range(130)) + "".join(f"0 split {page} 0\n" for page in range(130))
+        row = self.numbers(f"thp-journal 1\nnode 0 blocks 131\n{begin}{scan}end\n", "--scan", "recorded")[0]
+        self.assertEqual(row, (130, 0, 130, 1, 0))
 
     def test_the_examples_as_recorded(self) -> None:
         for path in ("kernel", "two_workers", "eight_workers", "underused"):
