@@ -31,7 +31,7 @@ from linux.common.keeper import Keeper  # noqa: E402
 SIGNALS = (signal.SIGINT, signal.SIGTERM, signal.SIGKILL)
 MOMENTS = [0.15 + 0.25 * number for number in range(10)]  # seconds after the tool's start
 PATIENCE = 5.0  # seconds
-NAMES = ("mapper", "workload", "guardian.py")
+NAMES = ("mapper", "workload", "known.py", "guardian.py")
 
 
 @dataclass(frozen=True)
