@@ -33,6 +33,15 @@ end
 """
 """Two pages; the first one is split."""
 
+MEANWHILE = TWO[: TWO.index("0 taken")] + """0 taken 0
+0 taken 1
+0 split 0 0-255
+1 unmapsub 0 256 128 stays 256-383
+0 split 1 0-127
+end
+"""
+"""A page loses mappings after it is split, before the next one is."""
+
 CONTENTS = """thp-journal 3
 node 0 blocks 2 order 9 underused 500
 0 alloc 0
@@ -132,6 +141,7 @@ class Runs(unittest.TestCase):
 
     def test_as_recorded_and_never(self) -> None:
         self.assertEqual(self.numbers(TWO), [(1, 0, 256, 0, 0), (0, 0, 0, 0, 0)])
+        self.assertEqual(self.numbers(MEANWHILE, "--scan", "recorded"), [(2, 0, 384, 0, 0)])
         recorded, never = self.rows(TWO)
         self.assertEqual((recorded["peak_mebibytes"], never["peak_mebibytes"]), (4.0, 4.0))
         # after the ten events: 2, 2, 2, 4, 4, 4, 4, 3, 1, 0 MiB, each for a second but the last

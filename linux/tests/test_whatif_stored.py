@@ -119,7 +119,7 @@ class Stored(unittest.TestCase):
             "left_out": ({"a": -1}, {"a": "b"}, {"a\nb": 1}, []),
             "note": ("\n", 5, "x" * 5000, "\u2028"),
             "today": (512, -1, "5"),
-            "sums": ({}, {"by_pmd": 1}, 5),
+            "sums": ({"by_pmd": "1"}, {"other": 1}, 5),
             "seconds": ("x", True, 1e300),
             "spent": ({"a": "b"}, 5),
             "unread": ({"a": -1}, []),
