@@ -134,8 +134,9 @@ class Stored(unittest.TestCase):
         for field, values in page.items():
             for value in values:
                 self.refused(text_of({**good, "folios": [{**good["folios"][0], field: value}]}))
-        for needed in ("processes", "left_out", "sums", "folios"):
-            self.refused(text_of({name: value for name, value in good.items() if name != needed}), f"{needed} is missing")
+        for needed in ("processes", "left_out", "folios"):
+            self.refused(text_of({name: value for name, value in good.items() if name != needed}), f"a field is missing: .*{needed}")
+        self.refused(text_of({**good, "folios": [{"frame": 4, "totals": [[512, 1]]}]}), "a field is missing: .*order")
         self.refused(text_of({**good, "folios": good["folios"] * 2}), "two huge pages have the same frame")
 
     def test_texts_that_are_spoilt(self) -> None:

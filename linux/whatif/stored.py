@@ -24,7 +24,6 @@ DIGITS = 20  # of a number
 LINE = 1 << 20  # bytes of a line: a page that 5,000 processes map
 SECTIONS = {"processes": "{}", "names": "{}", "left_out": "{}", "unread": "{}", "changed_pages": "[]", "folios": "[]"}
 """The fields that have a line for each entry, and their brackets."""
-NEEDED = ("processes", "left_out", "sums", "folios")
 
 Read = Callable[[Any], Any]
 """Returns what a JSON value stands for. ValueError for one that it can't be."""
@@ -76,7 +75,15 @@ def table_of(name: Read, read: Read, make: Read = dict) -> Read:
 def record(make: Callable[..., Any], kind: type, **others: Read) -> Read:
     """Returns how objects are read that have fields of a dataclass; `others`: those that aren't read by their type."""
     reads = reads_of(kind, **others)
-    return lambda value: make(**{name: read_field(name, each, reads) for name, each in OBJECT(value).items()})
+    return lambda value: made(make, {name: read_field(name, each, reads) for name, each in OBJECT(value).items()})
+
+
+def made(make: Callable[..., Any], values: dict[str, Any]) -> Any:
+    """Returns what is made of fields. ValueError where one is missing."""
+    try:
+        return make(**values)
+    except TypeError as error:
+        raise ValueError(f"a field is missing: {error}") from error
 
 
 def reads_of(kind: type, **others: Read) -> dict[str, Read]:
@@ -94,11 +101,9 @@ def read_field(name: str, value: Any, reads: Mapping[str, Read]) -> Any:
         raise ValueError(f"{name}: {error}") from error
 
 
-def page_of(frame: int = -1, order: int = -1, **values: Any) -> Folio:
-    """Returns a huge page of these values. ValueError where one is missing, or doesn't fit its size."""
-    if frame < 0 or order < 0:
-        raise ValueError("frame or order is missing")
-    folio = Folio(frame, order, **values)
+def page_of(**values: Any) -> Folio:
+    """Returns a huge page of these values. ValueError where they don't fit its size."""
+    folio = Folio(**values)
     if len(folio.totals) != folio.size:
         raise ValueError(f"totals doesn't have {folio.size} numbers")
     if max(folio.zero, folio.known, folio.kept, *(mapping.subset for mapping in folio.mappings)) > folio.full:
@@ -186,11 +191,7 @@ class StoredReader:
         """Returns the snapshot of a file, or of standard input (`-`). InputFault where it isn't one, or takes too much memory."""
         file, self._line = open_input(path), 0
         try:
-            values = self._fields(file)
-            lacking = [name for name in NEEDED if name not in values]
-            if lacking:
-                raise ValueError(f"{lacking[0]} is missing")
-            snapshot = Snapshot(**values)
+            snapshot: Snapshot = made(Snapshot, self._fields(file))
             if len({folio.frame for folio in snapshot.folios}) < len(snapshot.folios):
                 raise ValueError("two huge pages have the same frame")
             return snapshot
