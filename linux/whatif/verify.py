@@ -23,7 +23,7 @@ import time
 from collections import Counter
 from contextlib import ExitStack, contextmanager, suppress
 from pathlib import Path
-from typing import Iterator
+from typing import Any, Iterator
 
 from ..common.counters import CounterWatch, counts
 from ..common.errors import DIFFERS, DONE, INCONCLUSIVE, InputFault, RunFailed, Unavailable, signals_wait
@@ -111,20 +111,19 @@ class TrialBench:
 
     def _start(self, group: str, command: list[str]) -> subprocess.Popen[str]:
         """Starts a process in a group: known.py, with pipes, or a user's command without any."""
-        is_command = command is self.task.words
+        streams: dict[str, Any] = {"stdin": subprocess.PIPE, "stdout": subprocess.PIPE}
+        if self.task.words:
+            streams = {"stdin": subprocess.DEVNULL, "env": self.user.environment()}
 
         def enter() -> None:
             self.groups.enter(group, os.getpid())
-            if is_command:
+            if self.task.words:
                 self.user.enter()
             signal.pthread_sigmask(signal.SIG_SETMASK, former)
 
         try:
             with signals_wait() as former:
-                process = subprocess.Popen(
-                    command, stdin=subprocess.DEVNULL if is_command else subprocess.PIPE, stdout=None if is_command else subprocess.PIPE,
-                    text=True, start_new_session=True, env=self.user.environment() if is_command else None, preexec_fn=enter,
-                )
+                process = subprocess.Popen(command, text=True, start_new_session=True, preexec_fn=enter, **streams)
         except (OSError, ValueError) as error:
             raise InputFault(f"{escape(command[0])} can't be run: {getattr(error, 'strerror', None) or error}") from error
         except subprocess.SubprocessError as error:
