@@ -37,7 +37,7 @@ RANGES = WORDS[b"mapsub"], WORDS[b"unmapsub"], *CONTENTS
 EVENT = struct.Struct("=dQHHBB2x")  # struct event of policies.c
 NODE = re.compile(rb"node [0-7] blocks ([0-9]{1,4})(?: order ([2-9]))?(?: underused (off|[0-9]{1,3}))?\n")
 MOST = (1 << 32) - 1  # of policies.c: no threshold; as many pages as are queued
-CHUNK = 1 << 15  # events that are in memory
+CHUNK = 1 << 13  # events that are in memory, and done before a signal is heeded
 LATEST = 1e10  # seconds
 HEAD = {
     "threshold": "threshold", "scans": "scans", "takes": "takes", "split": "pages split", "failed": "failed", "frames_back": "frames back",
