@@ -23,7 +23,7 @@ _thpwhatif() {
     target) words="$choice --json" ;;
     watch) words="$choice --rounds --thresholds --json --prometheus" ;;
     verify) words='--thresholds --rounds --seed --pages --change --after --user --wait --running --enabled --no-kernel --keep --verbose' ;;
-    policies) words='--threshold --scan --take --times --best --json --svg --checker' ;;
+    policies) words='--threshold --scan --take --times --best --json --checker' ;;
     esac
     COMPREPLY=($(compgen -W "$words --help" -- "$word"))
     case $command in what-if | target | policies) COMPREPLY+=($(compgen -f -- "$word")) ;; esac

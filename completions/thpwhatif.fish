@@ -24,7 +24,7 @@ complete -c thpwhatif -n '__fish_seen_subcommand_from now what-if target watch p
 complete -c thpwhatif -n '__fish_seen_subcommand_from watch' -l prometheus -r -F -d 'Metrics for node_exporter'
 complete -c thpwhatif -n '__fish_seen_subcommand_from now what-if' -l by-process -d 'A table by process, too'
 complete -c thpwhatif -n '__fish_seen_subcommand_from now what-if' -l by-cgroup -d 'A table by control group, too'
-complete -c thpwhatif -n '__fish_seen_subcommand_from now what-if policies' -l svg -r -F -d 'A picture'
+complete -c thpwhatif -n '__fish_seen_subcommand_from now what-if' -l svg -r -F -d 'A picture'
 complete -c thpwhatif -n '__fish_seen_subcommand_from what-if target policies' -F
 complete -c thpwhatif -n '__fish_seen_subcommand_from snapshot' -s o -l output -r -F -d 'The new file'
 complete -c thpwhatif -n '__fish_seen_subcommand_from watch verify' -l rounds -x -d 'How often'

@@ -27,12 +27,11 @@ from prove import keep_verdict, library, listed, products, released, sources, ve
 
 WITHOUT = (
     "tests/docs.py", "tests/surface.py", "tests/installed.py", "tests/release.py", "tests/lint.py", "linux/tests/run.py",
-    "linux/whatif/tests/__main__.py",
 )
 """The tests of the tree only, and of the tools for the running kernel with stored data; without those of PREDICTIONS that need libthp."""
 
-PREDICTIONS = ("test_policies.py", "test_predict.py", "test_program.py", "test_stored.py")
-"""The tests of `thpwhatif` that call libthp."""
+PREDICTIONS = ("linux/tests/run.py", "-p", "test_whatif_*.py")
+"""The tests of `thpwhatif`, most of which call libthp."""
 
 BUILT = ("crates/thpsplit/out/thpsplit", "crates/thpsplit/out/thpsplit.by-rattle")
 """Where `rt ci` leaves the program, built with LLVM and with Rattle's own compiler."""
@@ -206,7 +205,7 @@ def test_library(gate: Gate, programs: list[str], archives: list[str]) -> None:
         gate.add("bench/calls/run", [sys.executable, "bench/calls/run", archive, "--ceilings"])
     if archives:
         build_tools(gate, "c")
-    gate.add("predictions", [sys.executable, "linux/whatif/tests/__main__.py", *PREDICTIONS])
+    gate.add("predictions", [sys.executable, *PREDICTIONS])
 
 
 def test_journal_tools(gate: Gate, programs: list[str], checkers: list[str], drawers: list[str]) -> None:

@@ -34,11 +34,10 @@ TOOLS = {"thpreplay": "linux/thpreplay", "thprecord": "linux/thprecord", "thpvm"
 COMMANDS = ("now", "snapshot", "what-if", "target", "watch", "verify", "policies")
 """The commands of `thpwhatif`."""
 
-HELPERS = ("known", "mapper", "pages.so", "thpkernel.so", "workload")
+HELPERS = ("mapper", "pages.so", "thpkernel.so", "workload")
 """What the tools have in C."""
 
-OVER_LIBTHP = tuple(built for source, built in (("policies.c", "policies"), ("predict.c", "predict.so"))
-                    if (ROOT / "linux/whatif" / source).is_file())
+OVER_LIBTHP = ("predict.so",)
 """What they have in C that needs libthp, which only a proof builds."""
 
 UNITS = ("thpwhatif.service", "thpwhatif.timer")

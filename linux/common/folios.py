@@ -59,7 +59,6 @@ class Folio:
     is_partly: bool | None = None  # flagged as partly mapped
     whole: int | None = None  # its mappings by PMD entries, all processes
     pins: int | None = None  # references beyond those of its mappings
-    place: int | None = None  # in its queue, from the oldest on
 
     @property
     def size(self) -> int:

@@ -1,5 +1,6 @@
 #!/usr/bin/env python3
-"""Runs all tests of linux/ that need neither root nor the built program. The last line is `N passed, M failed`."""
+"""Runs all tests of linux/ that need neither root nor the built program, or with `-p PATTERN` those in files of such names. The last line
+is `N passed, M failed`."""
 
 from __future__ import annotations
 
@@ -12,4 +13,4 @@ sys.dont_write_bytecode = True
 
 from linux.tests.root_case import main  # noqa: E402
 
-main("discover", "-s", str(ROOT / "linux/tests"), "-t", str(ROOT))
+main("discover", "-s", str(ROOT / "linux/tests"), "-t", str(ROOT), *sys.argv[1:])

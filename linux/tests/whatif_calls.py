@@ -1,21 +1,20 @@
-"""Calls of thpwhatif, and hostile programs beside them; for root_whatif.py."""
+"""Calls of thpwhatif, and hostile programs beside them; for root tests."""
 
 from __future__ import annotations
 
 import json
 import os
-import re
 import shutil
 import stat
 import subprocess
 import tempfile
 import time
+import unittest
 from contextlib import contextmanager
 from pathlib import Path
 from typing import Any, Iterator, Sequence
 
-from ..common.errors import Unavailable
-from .cases import Missing
+from .root_case import RootCase
 
 ROOT = Path(__file__).resolve().parent.parent.parent
 WHATIF = str(ROOT / "linux/whatif/thpwhatif")
@@ -31,39 +30,19 @@ class Call:
         began = time.monotonic()
         with tempfile.TemporaryFile() as out, tempfile.TemporaryFile() as problems:
             child = subprocess.Popen([*before, WHATIF, *words], stdin=subprocess.DEVNULL, stdout=out, stderr=problems)
-            self.peak = 0.0
-            while child.poll() is None:
-                self.peak = max(self.peak, peak_of(child.pid))
+            while not (ended := os.wait4(child.pid, os.WNOHANG))[0]:
                 if time.monotonic() - began > SECONDS:
                     child.kill()
                 time.sleep(0.005)
-            self.seconds, self.status = time.monotonic() - began, child.returncode
+            child.returncode = os.waitstatus_to_exitcode(ended[1])
+            self.seconds, self.status, self.peak = time.monotonic() - began, child.returncode, ended[2].ru_maxrss / 1024
             out.seek(0), problems.seek(0)
             self.out, self.problems = out.read().decode(), problems.read().decode()
-
-    def wrong(self, *statuses: int) -> str | None:
-        """What is wrong where it ended with another status, a traceback, or text that isn't printable."""
-        if "Traceback" in self.problems + self.out or "internal error" in self.problems:
-            return f"a traceback: {self.problems[-300:]}"
-        if self.status not in statuses:
-            return f"status {self.status}: {self.problems[-300:]} {self.out[-300:]}"
-        if re.search("[^\n -~]", self.out + self.problems):
-            return f"text that isn't printable: {(self.out + self.problems)[-300:]!r}"
-        return None
 
     def json(self) -> dict[str, Any]:
         """Its output as a JSON object."""
         found: dict[str, Any] = json.loads(self.out)
         return found
-
-
-def peak_of(process: int) -> float:
-    """The most memory that a process has had so far, in MiB."""
-    try:
-        found = re.search(rb"^VmHWM:\s+([0-9]+) kB$", Path(f"/proc/{process}/status").read_bytes(), re.MULTILINE)
-    except OSError:
-        return 0.0
-    return int(found[1]) / 1024 if found else 0.0
 
 
 class Pages:
@@ -73,7 +52,7 @@ class Pages:
         self.folder = folder
         compiler = shutil.which(os.environ.get("CC", "cc")) or shutil.which("gcc")
         if not compiler:
-            raise Unavailable("no C compiler")
+            raise unittest.SkipTest("no C compiler")
         for source in SOURCES:
             words = ["-std=c11", "-O2", "-Wall", "-Wextra", "-o", f"{folder}/{Path(source).stem}", str(ROOT / "linux/tests" / source)]
             subprocess.run([compiler, *words, "-lpthread"], check=True)
@@ -84,7 +63,7 @@ class Pages:
     def run(self, *words: object, user: int = 0, group: bytes = b"") -> Any:
         """Runs a program of hostile_pages.c until the end of a `with`; gives its process number once it is ready."""
         enter = (lambda: Path(os.fsdecode(group), "cgroup.procs").write_text(str(os.getpid()))) if group else None
-        return self.start([f"{self.folder}/hostile_pages", *map(str, words)], user, preexec_fn=enter)
+        return self.start([f"{self.folder}/hostile_pages", *map(str, words), str(SECONDS)], user, preexec_fn=enter)
 
     def hold_locks(self, count: int, user: int = USER) -> Any:
         """Runs fuse_holder.c until the end of a `with`: so many processes of a user hold their mmap_lock, and reads of the file of its
@@ -102,14 +81,31 @@ class Pages:
         """Runs a program until the end of the `with`; gives its process number once it has printed `ready`."""
         if user:
             more.update(user=user, group=user, extra_groups=[])
-        child = subprocess.Popen(command, stdout=subprocess.PIPE, cwd=f"{self.folder}/open", **more)
-        try:
-            assert child.stdout
-            if child.stdout.readline() != b"ready\n":
-                raise Missing(f"{command[0]} isn't ready (huge pages, user namespaces with FUSE, the limit of locked memory)")
-            yield child.pid
-        finally:
-            child.kill()
-            child.wait()
-            if child.stdout:
-                child.stdout.close()
+        with subprocess.Popen(command, stdout=subprocess.PIPE, cwd=f"{self.folder}/open", **more) as child:
+            try:
+                assert child.stdout
+                if child.stdout.readline() != b"ready\n":
+                    raise unittest.SkipTest(f"{command[0]} isn't ready (huge pages, user namespaces with FUSE, the limit of locked memory)")
+                yield child.pid
+            finally:
+                child.kill()
+
+
+class WhatifCase(RootCase):
+    """Calls of thpwhatif beside hostile programs."""
+
+    seconds = 2 * SECONDS
+    pages: Pages
+
+    @classmethod
+    def setUpClass(cls) -> None:
+        folder = tempfile.TemporaryDirectory(prefix="leversorrel-")
+        cls.addClassCleanup(folder.cleanup)
+        cls.pages = Pages(folder.name)
+
+    def check(self, call: Call, *statuses: int) -> Call:
+        """Checks that a call ended with one of these statuses, without a traceback, and with printable texts."""
+        self.assertNotRegex(call.problems + call.out, "Traceback|internal error")
+        self.assertIn(call.status, statuses, call.problems[-300:] + call.out[-300:])
+        self.assertNotRegex(call.out + call.problems, "[^\n -~]")
+        return call

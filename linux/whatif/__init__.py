@@ -5,8 +5,8 @@
     page_plan    what decides what a split does with a huge page, and which pages can't be predicted
     predict.c    the prediction, by libthp; predictor: for the pages of looks
     rows         thresholds, and the sums of pages at each
-    report       the predictions of a look, as tables and as JSON; picture: as SVG; metrics: for Prometheus; watch: of repeated looks
+    report       the predictions of a look, as tables, JSON and SVG; metrics: for Prometheus; watch: of repeated looks
     policies     recorded journals under other thresholds and scans (policies.c)
-    known_pages, verify, reference    known pages, the real shrinker, and a plain reading of the kernel's functions
+    verify       trials with the real shrinker; trial: their outcome, and a plain reading of the kernel; known: known pages
     options      the words of the command line; program: the commands, and the files that they write
 """

@@ -15,7 +15,7 @@ from typing import Callable, Iterable
 
 from ..common import proc
 from ..common.errors import InputFault, Unavailable
-from ..common.files import BASE, PMD_ORDER, PTES_NONE, SWITCH, read
+from ..common.files import BASE, PMD_ORDER, PTES_NONE, THP, read
 from ..common.folios import Folio, even_counts
 from ..common.groups import checked_group, find_hierarchy
 from ..common.kernel_library import STATES, PageState
@@ -27,6 +27,8 @@ from ..common.second_look import Changes, SecondLook
 from ..common.text import escape
 from .snapshot import Snapshot, Sums
 
+COLLAPSED = f"{THP}/khugepaged/pages_collapsed"
+
 
 @dataclass
 class ProcessChoice:
@@ -35,12 +37,6 @@ class ProcessChoice:
     processes: list[int] = field(default_factory=list)
     groups: list[str] = field(default_factory=list)
     everything: bool = False
-
-    def describe(self) -> str:
-        """Returns it in words."""
-        words = [f"process {number}" for number in self.processes]
-        words += [f"control group {escape(path)}" for path in self.groups]
-        return ", ".join(words + (["all processes"] if self.everything else []))
 
     def check(self) -> None:
         """Resolves the control groups' paths. InputFault for a process or a control group that doesn't exist."""
@@ -64,20 +60,21 @@ class ProcessChoice:
 
 
 class SnapshotTaker:
-    """Takes snapshots; the kernel's types are read once for all of them. `with_small`: huge pages below PMD size too; `with_kernel`:
-    queues, flags and pins by BPF; `all_queued`: as if each page of PMD size were still in its queue; `memory`: MiB that a look keeps
-    at most."""
+    """Takes snapshots; the library of BPF programs is loaded once for all of them. `with_small`: huge pages below PMD size too;
+    `with_kernel`: queues, flags and pins by BPF; `all_queued`: as if each page of PMD size were still in its queue; `memory`: MiB that a
+    look keeps at most."""
 
     def __init__(
         self, with_small: bool = False, with_kernel: bool = True, all_queued: bool = False, memory: int = MEMORY,
-        progress: Progress | None = None,
+        progress: Progress = lambda what, done, of: None,
     ) -> None:
-        self._with_small, self._all_queued, self._memory = with_small, all_queued, memory
-        self._progress = progress or (lambda what, done, of: None)
-        self._kernel = KernelMemory()
-        self._groups: dict[int, int] = {}  # addresses of control groups by their inodes, of pages that were looked at
-        self.lacking = why_not(lambda: self._kernel.page_states([])) if with_kernel else "not asked for"
-        self._is_ordered = not self.lacking and not why_not(self._kernel.locate_queues)  # else a page has that it is in a queue
+        self._with_small, self._all_queued, self._memory, self._progress = with_small, all_queued, memory, progress
+        self._kernel, self.lacking = KernelMemory(), "" if with_kernel else "not asked for"  # why the kernel's structures aren't read
+        try:
+            if with_kernel:
+                self._kernel.page_states([])
+        except Unavailable as error:
+            self.lacking = escape(first_line(error))
 
     def take(self, choice: ProcessChoice) -> Snapshot:
         """Looks once. What can't be read is counted; a process that ends meanwhile isn't."""
@@ -92,17 +89,14 @@ class SnapshotTaker:
             changes = SecondLook(reader).take()
             with reader.timed("queues"):
                 keep_lasting_pins(reader.folios.values(), self._look)
-                places, notes = self._places(reader.folios.values())
-            machine = machine_huge() if choice.everything and not namespace_note() else None
         finally:
             reader.close()
         for folio in [*reader.folios.values(), *(before for before, _ in changes.pairs if before)]:
-            folio.place = places.get(folio.frame)
             if self._all_queued and folio.order == PMD_ORDER:
                 folio.is_queued = True
         snapshot = self._gather(reader, changes)
-        snapshot.chosen, snapshot.sums.machine = choice.describe(), machine
-        snapshot.note = "; ".join(filter(None, [namespace_note(), *notes]))
+        snapshot.note = namespace_note()
+        snapshot.sums.machine = machine_huge() if choice.everything and not snapshot.note else None
         snapshot.seconds = time.monotonic() - began
         return snapshot
 
@@ -111,25 +105,9 @@ class SnapshotTaker:
         gone: list[Folio] = []
         for first in range(0, 0 if self.lacking else len(folios), STATES):
             some = folios[first : first + STATES]
-            for folio, state in zip(some, self._kernel.page_states([folio.frame for folio in some])):
-                if state.group:
-                    self._groups[folio.cgroup] = state.group
-                if not fill(folio, state):
-                    gone.append(folio)
+            states = self._kernel.page_states([folio.frame for folio in some])
+            gone += [folio for folio, state in zip(some, states) if not fill(folio, state)]
         return gone
-
-    def _places(self, folios: Iterable[Folio]) -> tuple[dict[int, int], list[str]]:
-        """Returns pages' places in their queues, by frame, and a note where they aren't known: they change no row."""
-        wanted = {folio.frame for folio in folios}
-        out: dict[int, int] = {}
-        notes: list[str] = []
-        for group in {self._groups.get(folio.cgroup, 0) for folio in folios} - {0} if self._is_ordered else ():
-            try:
-                frames = [self._kernel.frame(folio) for folios in self._kernel.queues(group).values() for folio in folios]
-                out.update({frame: place for place, frame in enumerate(frames) if frame in wanted})
-            except Unavailable as error:
-                notes = [f"the order of pages isn't known in each queue: {error}"]
-        return out, notes
 
     def _gather(self, reader: Reader, changes: Changes) -> Snapshot:
         folios = [reader.folios[frame] for frame in sorted(reader.folios)]
@@ -138,7 +116,6 @@ class SnapshotTaker:
         reader.unread += Counter({HIDDEN: sum(folio.known != folio.full for folio in folios)})
         whole = [folio.known_pmd_mappings > 0 for folio in folios if folio.order == PMD_ORDER]
         page = BASE << PMD_ORDER
-        switch, today = (int(read(path)) if os.path.exists(path) else None for path in (SWITCH, PTES_NONE))
         return Snapshot(
             folios=folios,
             processes={number: name_of(number) for number in sorted({m.process for folio in folios for m in folio.mappings})},
@@ -155,18 +132,14 @@ class SnapshotTaker:
             sampled=changes.sampled,
             changed=changes.changed,
             spent=dict(reader.spent),
-            today=today,
-            switch=None if switch is None else bool(switch),
+            today=number_in(PTES_NONE),
+            collapsed=number_in(COLLAPSED),
         )
 
 
-def why_not(attempt: Callable[[], object]) -> str:
-    """Returns why something isn't available here, in a line, or nothing."""
-    try:
-        attempt()
-    except Unavailable as error:
-        return escape(first_line(error))
-    return ""
+def number_in(path: str) -> int | None:
+    """Returns the number in a file of the kernel, if it has the file."""
+    return int(read(path)) if os.path.exists(path) else None
 
 
 def names_of_groups(wanted: set[int]) -> dict[int, str]:

@@ -3,9 +3,12 @@
 from __future__ import annotations
 
 import argparse
+import re
+from typing import Callable
 
 from ..common.arguments import OneLineParser, seconds, tool_parser, whole
 from ..common.reader import MEMORY
+from ..common.text import escape
 from .rows import thresholds_of
 from .snapshot import NAME
 
@@ -16,73 +19,61 @@ MOST_MEMORY = 1 << 20  # MiB
 MOST_FREED = 1e9  # MiB
 
 
-def add_choice(words: argparse.ArgumentParser) -> None:
-    """Adds the options that select what is looked at, and how."""
-    process = whole(1, MOST_PROCESS)
-    words.add_argument("--pid", type=process, action="append", default=[], metavar="P", help="a process; repeatable")
-    words.add_argument("--cgroup", action="append", default=[], metavar="DIR", help="a control group and those below")
-    words.add_argument("--all", action="store_true", help="all processes")
-    add_memory(words)
-    words.add_argument("--orders", action="store_true", help="huge pages below PMD size, too")
-    words.add_argument("--queued", choices=("seen", "all"), default="seen", help="all: as if each page were still in its queue")
-    add_no_kernel(words)
+def mebibytes(low: float, high: float) -> Callable[[str], float]:
+    """Returns a type for sizes in MiB: a number of MiB, or one with a unit: M, G, T, MiB, GiB, TiB by 1024, MB, GB, TB by 1000."""
 
+    def parse(text: str) -> float:
+        found = re.fullmatch(r"([0-9]{1,12}(?:\.[0-9]{1,12})?)([MGT](?:iB|B)?)?", text)
+        unit = found[2] or "M" if found else "M"
+        base = 1000.0 if unit[1:] == "B" else 1024.0
+        size: float = float(found[1]) * base ** (2 + "MGT".index(unit[0])) / 2**20 if found else 0.0
+        if not low <= size <= high:
+            raise argparse.ArgumentTypeError(f"{escape(text)[:40]!r} is no size from {low:g} to {high:g} MiB (500, 1.5G, 5GiB, 5GB)")
+        return size
 
-def add_no_kernel(words: argparse.ArgumentParser) -> None:
-    """Adds the option that does without the kernel's queues and structures of pages."""
-    about = "guess queues and pins instead of reading them"
-    words.add_argument("--no-kernel", dest="with_kernel", action="store_false", help=about)
-
-
-def add_memory(words: argparse.ArgumentParser) -> None:
-    """Adds the option that limits the memory of looks and of stored snapshots."""
-    words.add_argument("--memory", type=whole(1, MOST_MEMORY), default=MEMORY, metavar="MIB", help="the limit of memory")
-
-
-def add_thresholds(words: argparse.ArgumentParser, about: str = "as for now") -> None:
-    """Adds the option of thresholds."""
-    words.add_argument("--thresholds", type=thresholds_of, metavar="LIST", help=about)
-
-
-def add_tables(words: argparse.ArgumentParser) -> None:
-    """Adds the options of a table."""
-    add_thresholds(words, "off and numbers from 0 to 511, joined by commas")
-    words.add_argument("--json", action="store_true", help="a JSON object instead of tables")
-    words.add_argument("--by-process", action="store_true", help="a table by process, too")
-    words.add_argument("--by-cgroup", action="store_true", help="a table by control group, too")
-    words.add_argument("--svg", metavar="FILE", help="a picture of the table")
+    return parse
 
 
 def parser() -> argparse.ArgumentParser:
     """Returns all commands and their options."""
     top = tool_parser(NAME, "What would the shrinker of transparent huge pages give back now?")
     commands = top.add_subparsers(dest="command", required=True, metavar="COMMAND", parser_class=OneLineParser)
-    now = commands.add_parser("now", help="look, and print what each threshold would give back")
+    memory, kernel, thresholds, as_json = (OneLineParser(add_help=False) for _ in range(4))  # of several commands
+    memory.add_argument("--memory", type=mebibytes(1, MOST_MEMORY), default=MEMORY, metavar="MIB", help="the limit of memory")
+    about = "guess queues and pins instead of reading them"
+    kernel.add_argument("--no-kernel", dest="with_kernel", action="store_false", help=about)
+    about = "off and numbers from 0 to 511, joined by commas"
+    thresholds.add_argument("--thresholds", type=thresholds_of, metavar="LIST", help=about)
+    as_json.add_argument("--json", action="store_true", help="JSON instead of tables; of watch a line for each look")
+    choice = OneLineParser(add_help=False, parents=[memory, kernel])
+    tables = OneLineParser(add_help=False, parents=[thresholds, as_json])
+    process = whole(1, MOST_PROCESS)
+    choice.add_argument("--pid", type=process, action="append", default=[], metavar="P", help="a process; repeatable")
+    choice.add_argument("--cgroup", action="append", default=[], metavar="DIR", help="a control group and those below")
+    choice.add_argument("--all", action="store_true", help="all processes")
+    choice.add_argument("--orders", action="store_true", help="huge pages below PMD size, too")
+    choice.add_argument("--queued", choices=("seen", "all"), default="seen", help="all: as if each page were still in its queue")
+    tables.add_argument("--by-process", action="store_true", help="a table by process, too")
+    tables.add_argument("--by-cgroup", action="store_true", help="a table by control group, too")
+    tables.add_argument("--svg", metavar="FILE", help="a picture of the table")
+    now = commands.add_parser("now", parents=[choice, tables], help="look, and print what each threshold would give back")
     now.set_defaults(files=[])
-    add_choice(now)
-    add_tables(now)
-    snapshot = commands.add_parser("snapshot", help="look, and write what was read")
-    add_choice(snapshot)
+    snapshot = commands.add_parser("snapshot", parents=[choice], help="look, and write what was read")
     snapshot.add_argument("-o", "--output", default="-", metavar="FILE", help="the new file; if not given, standard output")
-    what_if = commands.add_parser("what-if", help="the table of what snapshot wrote")
+    what_if = commands.add_parser("what-if", parents=[memory, tables], help="the table of what snapshot wrote")
     what_if.add_argument("files", nargs="+", metavar="FILE", help="of snapshot; - is standard input")
-    add_memory(what_if)
-    add_tables(what_if)
-    target = commands.add_parser("target", help="the highest threshold that gives back so much")
-    target.add_argument("mebibytes", type=seconds(0.001, MOST_FREED), metavar="MIB")
+    target = commands.add_parser("target", parents=[choice, as_json], help="the highest threshold that gives back so much")
+    target.add_argument("mebibytes", type=mebibytes(0.001, MOST_FREED), metavar="MIB", help="or with a unit: 5G, 5GB")
     target.add_argument("files", nargs="*", metavar="FILE", help="of snapshot; else --pid, --cgroup or --all")
-    target.add_argument("--json", action="store_true")
-    add_choice(target)
-    watching = commands.add_parser("watch", help="look again and again, and print how the rows change")
+    about = "look again and again, and print how the rows change"
+    watching = commands.add_parser("watch", parents=[choice, thresholds, as_json], help=about)
     watching.add_argument("seconds", type=seconds(0.001, LONGEST), metavar="SECONDS", help="from one look to the next")
     rounds = whole(0, MOST_COUNT)
     watching.add_argument("--rounds", type=rounds, default=0, metavar="N", help="end after so many looks; 0: by SIGINT")
-    add_thresholds(watching)
-    watching.add_argument("--json", action="store_true", help="a JSON object for each look, on a line")
     watching.add_argument("--prometheus", metavar="FILE", help="write each look as metrics, replacing FILE")
-    add_choice(watching)
-    add_verify(commands.add_parser("verify", help="known pages, or a command's, and then the real shrinker"))
-    add_policies(commands.add_parser("policies", help="a recorded journal under other thresholds and scans"))
+    about = "known pages, or a command's, and then the real shrinker"
+    add_verify(commands.add_parser("verify", parents=[kernel, thresholds], help=about))
+    add_policies(commands.add_parser("policies", parents=[as_json], help="a recorded journal under other thresholds and scans"))
     return top
 
 
@@ -90,33 +81,26 @@ def add_policies(words: argparse.ArgumentParser) -> None:
     """Adds the options of policies."""
     words.add_argument("journals", nargs="+", metavar="JOURNAL", help="of thprecord or thpsplit; - is standard input")
     words.add_argument("--threshold", default="recorded", metavar="LIST", help="recorded, off, numbers from 0 to 511")
-    words.add_argument(
-        "--scan", default="recorded,never", metavar="LIST", help="when: recorded, never, events:N, seconds:S, held:MIB"
-    )
+    when = "when: recorded, never, events:N, seconds:S, held:MIB"
+    words.add_argument("--scan", default="recorded,never", metavar="LIST", help=when)
     words.add_argument("--take", default="recorded", metavar="N", help="pages that a scan takes: recorded, all, a number")
     words.add_argument("--times", action="append", metavar="FILE", help="of a journal: seconds of each event; repeatable")
-    words.add_argument("--best", type=seconds(0.001, MOST_FREED), metavar="MIB", help="fewest splits within so much memory")
-    words.add_argument("--json", action="store_true", help="a JSON object instead of a table")
-    words.add_argument("--svg", metavar="FILE", help="a picture of the memory held")
+    words.add_argument("--best", type=mebibytes(0.001, MOST_FREED), metavar="MIB", help="fewest splits within so much memory")
     words.add_argument("--checker", metavar="PATH", help="the thpcheck to run")
 
 
 def add_verify(words: argparse.ArgumentParser) -> None:
     """Adds the options of verify."""
-    add_thresholds(words)
-    count, most = whole(1, MOST_COUNT), whole(1, 4000)
-    words.add_argument("--rounds", type=count, default=1, metavar="N", help="how often each threshold is tried")
+    micros, after = whole(0, 10**9), seconds(0, LONGEST)
+    words.add_argument("--rounds", type=whole(1, MOST_COUNT), default=1, metavar="N", help="how often each threshold is tried")
     words.add_argument("--seed", type=whole(0, 10**17), default=1, metavar="S")
-    words.add_argument("--pages", type=most, default=40, metavar="N", help="known pages of a trial, at most 4000")
-    micros = whole(0, 10**9)
+    words.add_argument("--pages", type=whole(1, 4000), default=40, metavar="N", help="known pages of a trial, at most 4000")
     words.add_argument("--change", type=micros, default=0, metavar="MICROS", help="known pages that change so often")
-    after = seconds(0, LONGEST)
     words.add_argument("--after", type=after, default=5.0, metavar="SECONDS", help="for which the command runs first")
     words.add_argument("--user", metavar="NAME", help="runs the command; if not given, the caller of sudo")
     words.add_argument("--wait", action="store_true", help="wait until another tool that changes the machine has ended")
     words.add_argument("--running", action="store_true", help="don't hold the pages still until the comparison")
     words.add_argument("--enabled", choices=("always", "madvise"), help="transparent_hugepage/enabled meanwhile")
-    add_no_kernel(words)
     words.add_argument("--keep", default="", metavar="FOLDER", help="write what each trial saw there")
     words.add_argument("--verbose", action="store_true", help="a line for each trial")
     words.add_argument("words", nargs="*", metavar="-- COMMAND", help="a command to try instead of known pages")

@@ -1,33 +1,32 @@
-/* Repeats the calls of a journal on nodes of libthp with another threshold and other scans; for linux/whatif/policies.py.
+/* Repeats the calls of a journal on a node of libthp with another threshold and other scans; for linux/whatif/policies.py.
  *
- *   policies THRESHOLD WHEN AMOUNT TAKE [TIMES] < JOURNAL
- *
- *   THRESHOLD  recorded, off, or a number: the nodes' threshold of zero-filled subpages
- *   WHEN       recorded: where the journal has takes; never; events: after each AMOUNT calls; seconds: each AMOUNT seconds; held:
- *              after each call that leaves AMOUNT frames held, or more
- *   TAKE       how many pages a scan takes: recorded (as many as the journal's did; other scans take all), all, or a number
- *   TIMES      a file descriptor with a line for each event, its time in seconds; without it, each event takes a second
- *
- * The journal is legal: the caller has checked it. Standard output gets for each node a line `node` with the numbers of `struct sums`,
- * in their order, and then a line `column EVENTS FRAMES` for each column. Status 0; with a line on standard error 1, or 2 where the times
- * don't fit the journal.
+ * A run is a node under a policy: start_run makes it, follow_events is called with its events in order, end_run stores its numbers and
+ * removes it. The journal is legal: the caller has checked it.
  *
  * Pages can differ from the recorded ones in one way: they are split earlier, later or never. A page that is split here alone takes PTE
  * calls instead of PMD calls, and no pins and contents. One that was split there alone gets its PMD mappings split where the journal
  * unmaps parts of it. A range that is refused is done subpage by subpage, where each can be. `changed` counts such calls.
  */
-#define _POSIX_C_SOURCE 200809L
-#include <inttypes.h>
 #include <stdbool.h>
-#include <stdint.h>
-#include <stdio.h>
 #include <stdlib.h>
-#include <string.h>
 #include <thp.h>
 
-enum { LINE = 8192, COLUMNS = 512 };
+/* The words of events, as policies.py numbers them: calls first, then what recorded scans do. */
+enum { ALLOC, CLOSE, MAPWHOLE, UNMAPWHOLE, MAPSUB, UNMAPSUB, SPLITPMD, PIN, UNPIN, WRITE, ZERO, TAKEN, SPLIT, PINNED, USED, BACK, DROPPED };
 
-/* The numbers of a node. Frames are base pages. */
+/* When scans come: where the journal has takes; never; after each `amount` calls; each `amount` seconds; after each call that leaves
+ * `amount` frames held, or more. */
+enum { RECORDED, NEVER, EVENTS, SECONDS, HELD };
+enum { AS_RECORDED = 0, ALL = UINT32_MAX }; /* how many pages a scan takes, if it is no number */
+
+struct event {
+    double at; /* seconds */
+    uint64_t page;
+    uint16_t first, count;
+    uint8_t caller, word, unused[2];
+};
+
+/* The numbers of a run. Frames are base pages. */
 struct sums {
     uint64_t scans;
     uint64_t split;   /* pages split */
@@ -36,108 +35,62 @@ struct sums {
     uint64_t peak;    /* the greatest number of frames held */
     uint64_t huge;    /* live pages that aren't split; until the end with those that were */
     uint64_t changed; /* calls that were done in another form */
-    double held;      /* frames held, each by the weight of its time */
-    double weight;    /* seconds */
+    double held;      /* frames held, each by the seconds for which it is */
+    double seconds;
 };
 
-/* The greatest number of frames held in each `width` events. Pairs become one column when all are full. */
-struct columns {
-    uint64_t most[COLUMNS], width, in_last;
-    uint32_t count;
-};
-
-struct policy {
-    const char *threshold, *when, *take;
-    double amount;
-};
-
-/* One event of the journal. */
-struct event {
-    uint32_t caller, first, count;
-    uint64_t page;
-    char word[16];
-};
-
-/* A caller's batch, as the journal has it. A try is done when the journal tries the page whose turn it is here. Others wait until each page
- * has had one there: the kernel tries the newest page first, the node the oldest. */
+/* A caller's batch of a recorded scan. The node tries its oldest page first, the kernel the newest one: tries wait until the journal has
+ * that of the oldest page, or as many as there are pages. */
 struct batch {
-    bool is_open;
-    uint32_t count;  /* pages, without those that were freed since */
-    uint32_t wanted; /* tries that the journal has so far */
-    uint32_t tried;  /* tries done here */
-    uint64_t pages[THP_MAX_BATCH];
+    bool is_open, is_in_order;
+    uint32_t count;  /* pages that weren't tried here, or freed */
+    uint32_t waiting;
+    uint64_t oldest;
 };
 
-/* A node under the policy. */
 struct run {
-    const struct policy *policy;
     thp_node node;
-    uint32_t subpages;
-    uint32_t taken, taker;         /* the takes in a row that the journal has here, and their caller */
-    uint64_t takes[THP_MAX_BATCH]; /* their pages */
-    struct batch batches[THP_MAX_CALLERS];
-    uint64_t calls;                /* since the last scan */
-    bool is_timed;                 /* an event had its time */
-    double last_scan, now;         /* seconds */
+    thp_code code; /* of the first call that failed and may not */
+    uint32_t subpages, when, take;
+    double amount;
+    uint32_t taken, taker; /* the takes in a row that the journal has here, and their caller */
+    uint64_t oldest;       /* the first page of these */
+    struct batch batches[UINT8_MAX + 1]; /* by caller */
+    uint64_t calls;        /* since the last scan */
+    double last_scan, now; /* -1: before the first event */
     struct sums sums;
-    struct columns columns;
 };
 
-static const double LATEST = 1e10; /* seconds */
-static uint64_t line_number;
-
-static void fail(int status, const char *what) {
-    fprintf(stderr, "line %" PRIu64 ": %s\n", line_number, what);
-    exit(status);
-}
-
-/* Ends the program where a call that can't be refused was. */
-static void demand(thp_code code) {
-    if (code != THP_OK) fail(1, thp_strerror(code));
-}
-
-static uint64_t larger(uint64_t one, uint64_t other) {
-    return one > other ? one : other;
+static void demand(struct run *run, thp_code code) {
+    if (run->code == THP_OK) run->code = code;
 }
 
 static thp_stats stats_of(struct run *run) {
-    thp_stats stats;
-    demand(thp_node_stats(&run->node, &stats));
+    thp_stats stats = {0};
+    demand(run, thp_node_stats(&run->node, &stats));
     return stats;
 }
 
-/* Adds what is held, by the weight of the time for which it is. */
-static void weigh(struct run *run, double weight) {
-    run->sums.held += (double)stats_of(run).frames_held * weight;
-    run->sums.weight += weight;
+/* Lets time pass while nothing changes. */
+static void wait_until(struct run *run, double until) {
+    run->sums.held += (double)stats_of(run).frames_held * (until - run->now);
+    run->sums.seconds += until - run->now;
+    run->now = until;
 }
 
-/* Notes what is held after an event. */
-static void note_held(struct run *run) {
-    uint64_t held = stats_of(run).frames_held;
-    struct columns *columns = &run->columns;
-    if (columns->count == 0 || columns->in_last == columns->width) {
-        if (columns->count == COLUMNS) {
-            for (uint32_t i = 0; i < COLUMNS; i += 2)
-                columns->most[i / 2] = larger(columns->most[i], columns->most[i + 1]);
-            columns->count = COLUMNS / 2;
-            columns->width *= 2;
-        }
-        columns->most[columns->count++] = 0;
-        columns->in_last = 0;
-    }
-    columns->in_last++;
-    columns->most[columns->count - 1] = larger(columns->most[columns->count - 1], held);
-    run->sums.peak = larger(run->sums.peak, held);
+/* How many pages a scan takes where the journal's took `recorded`; 0: the journal has none here. */
+static uint64_t count_of(struct run *run, uint32_t recorded) {
+    if (run->take == AS_RECORDED && recorded) return recorded;
+    return run->take == AS_RECORDED || run->take == ALL ? stats_of(run).queued : run->take;
 }
 
 /* A scan of `n` pages, in batches of at most THP_MAX_BATCH. Returns how many it took, if it put all of them back, else 0. */
-static uint64_t scan(struct run *run, uint32_t caller, uint32_t n) {
-    thp_scan done;
+static uint64_t scan(struct run *run, uint32_t caller, uint64_t n) {
     uint64_t before = stats_of(run).frames_given, taken = 0, back = 0;
     while (n) {
-        uint32_t part = n < THP_MAX_BATCH ? n : THP_MAX_BATCH;
-        demand(thp_node_scan(&run->node, caller, part, &done));
+        thp_scan done = {0};
+        uint32_t part = n < THP_MAX_BATCH ? (uint32_t)n : THP_MAX_BATCH;
+        demand(run, thp_node_scan(&run->node, caller, part, &done));
         taken += done.taken;
         back += done.back;
         n = done.taken < part ? 0 : n - part;
@@ -147,176 +100,126 @@ static uint64_t scan(struct run *run, uint32_t caller, uint32_t n) {
     return taken == back ? taken : 0;
 }
 
-/* Does the tries that the journal has had of a caller's open batch, where a page is left. */
+/* Does the tries that wait, where a page is left. */
 static void do_tries(struct run *run, uint32_t caller) {
     struct batch *batch = &run->batches[caller];
     uint64_t before = stats_of(run).frames_given;
-    for (thp_tried tried; batch->tried < batch->wanted; batch->tried++)
-        demand(thp_node_split_next(&run->node, caller, &tried));
+    for (thp_tried tried; batch->waiting; batch->waiting--) {
+        demand(run, thp_node_split_next(&run->node, caller, &tried));
+        batch->count -= batch->count > 0;
+    }
     run->sums.back += stats_of(run).frames_given - before;
 }
 
-/* A try that the journal has of an open batch. */
-static void try_page(struct run *run, uint32_t caller, uint64_t page) {
-    struct batch *batch = &run->batches[caller];
-    bool has_turn = batch->tried == batch->wanted && batch->tried < batch->count && batch->pages[batch->tried] == page;
-    batch->wanted++;
-    if (has_turn || batch->wanted >= batch->count) do_tries(run, caller);
-}
-
-/* Removes a page that was freed from a caller's batch. */
-static void leave_batch(struct run *run, uint32_t caller, uint64_t page) {
-    struct batch *batch = &run->batches[caller];
-    for (uint32_t i = batch->tried; batch->is_open && i < batch->count; i++)
-        if (batch->pages[i] == page) {
-            batch->count--;
-            memmove(&batch->pages[i], &batch->pages[i + 1], (batch->count - i) * sizeof *batch->pages);
-            if (batch->wanted >= batch->count) do_tries(run, caller);
-        }
-}
-
-/* Ends a caller's open batch: puts back what is left of it. */
-static void end_batch(struct run *run, uint32_t caller) {
+static void close_batch(struct run *run, uint32_t caller) {
     thp_back back;
     if (!run->batches[caller].is_open) return;
     do_tries(run, caller);
-    demand(thp_node_put_back(&run->node, caller, &back));
+    demand(run, thp_node_put_back(&run->node, caller, &back));
     run->batches[caller].is_open = false;
-}
-
-/* How many pages a scan takes where the journal's took `recorded`; 0: the journal has none here. */
-static uint32_t count_of(struct run *run, uint32_t recorded) {
-    const char *take = run->policy->take;
-    if (recorded && !strcmp(take, "recorded")) return recorded;
-    if (strcmp(take, "recorded") && strcmp(take, "all")) return (uint32_t)strtoul(take, NULL, 10);
-    return (uint32_t)stats_of(run).queued;
 }
 
 /* Does the takes in a row that the journal had: by a batch that stays open, or as a scan where the policy changes how many are taken. */
 static void end_takes(struct run *run) {
     uint32_t n = run->taken, taken;
     run->taken = 0;
-    if (!n || strcmp(run->policy->when, "recorded")) return;
-    if (strcmp(run->policy->take, "recorded") || n > THP_MAX_BATCH) {
+    if (!n) return;
+    close_batch(run, run->taker);
+    if (run->take != AS_RECORDED || n > THP_MAX_BATCH) {
         scan(run, run->taker, count_of(run, n));
         return;
     }
-    end_batch(run, run->taker);
-    demand(thp_node_take(&run->node, run->taker, n, &taken));
-    struct batch *batch = &run->batches[run->taker];
-    *batch = (struct batch){.is_open = true, .count = taken};
-    memcpy(batch->pages, run->takes, sizeof run->takes);
+    demand(run, thp_node_take(&run->node, run->taker, n, &taken));
+    run->batches[run->taker] = (struct batch){.is_open = true, .count = taken, .oldest = run->oldest};
     run->sums.scans++;
+}
+
+/* Does an event of a recorded scan. */
+static void follow_scan(struct run *run, const struct event *event) {
+    struct batch *batch = &run->batches[event->caller];
+    if (event->word != TAKEN || event->caller != run->taker) end_takes(run);
+    if (event->word == TAKEN) {
+        if (!run->taken++) run->oldest = event->page;
+        run->taker = event->caller;
+    } else if (event->word == BACK || event->word == DROPPED) {
+        close_batch(run, event->caller);
+    } else if (batch->is_open) {
+        batch->waiting++;
+        batch->is_in_order |= event->page == batch->oldest;
+        if (batch->is_in_order || batch->waiting >= batch->count) do_tries(run, event->caller);
+    }
 }
 
 /* A scan that only the policy has. Returns what `scan` returns. */
 static uint64_t scan_by_policy(struct run *run) {
-    uint32_t n = count_of(run, 0);
+    uint64_t n = count_of(run, 0);
     run->calls = 0;
     return n ? scan(run, 0, n) : 0;
 }
 
-/* Whether the policy wants a scan now, after a call. */
-static bool is_due(struct run *run) {
-    const struct policy *policy = run->policy;
-    if (!strcmp(policy->when, "events")) return (double)run->calls >= policy->amount;
-    return !strcmp(policy->when, "held") && (double)stats_of(run).frames_held >= policy->amount;
-}
-
-/* How many scans come until a time. */
-static uint64_t scans_until(const struct run *run, double until) {
-    return (uint64_t)((until - run->last_scan) / run->policy->amount);
-}
-
-/* Lets time pass until the last of so many scans. */
-static void pass_scans(struct run *run, uint64_t scans) {
-    run->last_scan += run->policy->amount * (double)scans;
-    weigh(run, run->last_scan - run->now);
-    run->now = run->last_scan;
-}
-
-/* Counts scans until a time that put back all `taken` pages that each takes, as those before did: all `queued` pages are pinned. Full
- * turns of the queue are skipped, so that its order stays that of the scans. */
+/* Counts scans until a time that put back all `taken` pages that each takes, as those before did: all `queued` pages are pinned. Full turns
+ * of the queue alone, so that its order stays that of the scans. */
 static void skip_scans(struct run *run, double until, uint64_t taken, uint64_t queued) {
     uint64_t turn = 1;
     while (turn * taken % queued) turn++;
-    uint64_t scans = scans_until(run, until) / turn * turn;
+    uint64_t scans = (uint64_t)((until - run->last_scan) / run->amount) / turn * turn;
     run->sums.scans += scans;
     run->sums.failed += scans * taken;
-    pass_scans(run, scans);
+    run->last_scan += run->amount * (double)scans;
 }
 
 /* Lets time pass until an event, with the scans that come meanwhile. With an empty queue they do nothing. */
 static void pass_time(struct run *run, double until) {
     uint64_t in_row = 0; /* pages that scans took and put back, one after the other, since anything else happened */
-    while (!strcmp(run->policy->when, "seconds") && run->last_scan + run->policy->amount <= until) {
+    while (run->when == SECONDS && run->last_scan + run->amount <= until) {
         uint64_t queued = stats_of(run).queued;
         if (!queued) {
-            run->last_scan += run->policy->amount * (double)scans_until(run, until);
+            run->last_scan += run->amount * (double)(uint64_t)((until - run->last_scan) / run->amount);
             break;
         }
-        pass_scans(run, 1);
+        run->last_scan += run->amount;
+        wait_until(run, run->last_scan);
         uint64_t taken = scan_by_policy(run);
         in_row = taken ? in_row + taken : 0;
         if (in_row >= queued) skip_scans(run, until, taken, queued);
     }
-    weigh(run, until - run->now);
-    run->now = until;
+    wait_until(run, until);
 }
 
-/* Adds or removes a PTE mapping of a range; where that is refused, of each subpage that it is possible for. Returns whether it was whole. */
-static bool map_range(struct run *run, const struct event *event, uint32_t first, uint32_t count, bool adds, thp_done *done) {
-    thp_node *node = &run->node;
-    thp_code code = adds ? thp_node_map_sub(node, event->caller, event->page, first, count)
-                         : thp_node_unmap_sub(node, event->caller, event->page, first, count, done);
-    if (code == THP_OK) return true;
-    for (uint32_t i = first; i < first + count && done->outcome != THP_FREED; i++) {
-        if (adds) code = thp_node_map_sub(node, event->caller, event->page, i, 1);
-        else code = thp_node_unmap_sub(node, event->caller, event->page, i, 1, done);
-        if (code != THP_OK && code != THP_GONE && code != THP_NOT_MAPPED && code != THP_TOO_MANY) demand(code);
+/* Makes a call about a page, as the journal has it. */
+static thp_code make_call(thp_node *node, const struct event *event, thp_done *done) {
+    uint32_t caller = event->caller;
+    switch (event->word) {
+    case MAPWHOLE: return thp_node_map_whole(node, caller, event->page);
+    case UNMAPWHOLE: return thp_node_unmap_whole(node, caller, event->page, done);
+    case MAPSUB: return thp_node_map_sub(node, caller, event->page, event->first, event->count);
+    case UNMAPSUB: return thp_node_unmap_sub(node, caller, event->page, event->first, event->count, done);
+    case SPLITPMD: return thp_node_split_pmd(node, caller, event->page);
+    case PIN: return thp_node_pin(node, caller, event->page);
+    case UNPIN: return thp_node_unpin(node, caller, event->page, done);
+    case WRITE: return thp_node_write(node, caller, event->page, event->first, event->count);
+    case ZERO: return thp_node_zero(node, caller, event->page, event->first, event->count);
+    default: return THP_NO_CODE;
     }
-    return false;
 }
 
-/* Removes a PTE mapping of a range. The page may have PMD mappings here which the journal's page had no more. */
-static bool unmap_range(struct run *run, const struct event *event, const thp_page_state *page, thp_done *done) {
-    if (!page->whole_mapcount) return map_range(run, event, event->first, event->count, false, done);
-    thp_code code = thp_node_unmap_sub(&run->node, event->caller, event->page, event->first, event->count, done);
-    if (code == THP_OK) return true;
-    if (event->count == run->subpages) {
-        demand(thp_node_unmap_whole(&run->node, event->caller, event->page, done));
-    } else {
-        demand(thp_node_split_pmd(&run->node, event->caller, event->page));
-        map_range(run, event, event->first, event->count, false, done);
-    }
-    return false;
-}
-
-/* A call about a page that is split here: returns whether it was done as the journal has it. */
-static bool call_split(struct run *run, const struct event *event, thp_done *done) {
-    if (!strcmp(event->word, "mapsub") || !strcmp(event->word, "unmapsub"))
-        return map_range(run, event, event->first, event->count, *event->word == 'm', done);
-    if (!strcmp(event->word, "mapwhole") || !strcmp(event->word, "unmapwhole"))
-        map_range(run, event, 0, run->subpages, *event->word == 'm', done);
-    return false;
-}
-
-/* A call about a page that isn't split here. */
-static bool call_whole(struct run *run, const struct event *event, const thp_page_state *page, thp_done *done) {
+/* Makes a call about mappings that the page, as it is here, refuses. */
+static void make_otherwise(struct run *run, const struct event *event, const thp_page_state *page, thp_done *done) {
     thp_node *node = &run->node;
-    const char *word = event->word;
-    uint32_t caller = event->caller, first = event->first, count = event->count;
-    if (!strcmp(word, "unmapsub")) return unmap_range(run, event, page, done);
-    if (!strcmp(word, "mapsub")) return map_range(run, event, first, count, true, done);
-    if (!strcmp(word, "mapwhole")) demand(thp_node_map_whole(node, caller, event->page));
-    else if (!strcmp(word, "unmapwhole")) demand(thp_node_unmap_whole(node, caller, event->page, done));
-    else if (!strcmp(word, "splitpmd")) demand(thp_node_split_pmd(node, caller, event->page));
-    else if (!strcmp(word, "pin")) demand(thp_node_pin(node, caller, event->page));
-    else if (!strcmp(word, "unpin")) demand(thp_node_unpin(node, caller, event->page, done));
-    else if (!strcmp(word, "write")) demand(thp_node_write(node, caller, event->page, first, count));
-    else if (!strcmp(word, "zero")) demand(thp_node_zero(node, caller, event->page, first, count));
-    else fail(1, "an unknown event");
-    return true;
+    bool is_whole = event->word == MAPWHOLE || event->word == UNMAPWHOLE, maps = event->word == MAPWHOLE || event->word == MAPSUB;
+    uint32_t first = is_whole ? 0 : event->first, end = is_whole ? run->subpages : first + event->count;
+    if (!maps && page->whole_mapcount) { /* PMD mappings that the journal's page had no more */
+        if (end - first == run->subpages) {
+            demand(run, thp_node_unmap_whole(node, event->caller, event->page, done));
+            return;
+        }
+        demand(run, thp_node_split_pmd(node, event->caller, event->page));
+    }
+    for (; first < end && done->outcome != THP_FREED; first++) {
+        thp_code code = maps ? thp_node_map_sub(node, event->caller, event->page, first, 1)
+                             : thp_node_unmap_sub(node, event->caller, event->page, first, 1, done);
+        if (code == THP_OUT_OF_MEMORY) demand(run, code);
+    }
 }
 
 /* A call about a page that lives in the journal. One that a split has freed here early, with all its frames, takes none. */
@@ -324,134 +227,72 @@ static void call_page(struct run *run, const struct event *event) {
     thp_page_state page;
     thp_done done = {.outcome = THP_STAYS};
     thp_code code = thp_node_page(&run->node, event->page, &page);
-    bool is_same = false;
-    if (code != THP_NO_PAGE) {
-        demand(code);
-        is_same = page.split ? call_split(run, event, &done) : call_whole(run, event, &page, &done);
+    bool is_mapping = event->word >= MAPWHOLE && event->word <= UNMAPSUB;
+    if (code == THP_OK) {
+        code = make_call(&run->node, event, &done);
+        if (code != THP_OK && is_mapping) make_otherwise(run, event, &page, &done);
+        else if (!page.split) demand(run, code);
         run->sums.huge -= done.outcome == THP_FREED && !page.split;
-        if (done.outcome == THP_FREED && page.list == THP_LIST_FLIGHT) leave_batch(run, page.caller, event->page);
+        struct batch *batch = &run->batches[page.caller];
+        if (done.outcome == THP_FREED && page.list == THP_LIST_FLIGHT && batch->count && --batch->count <= batch->waiting)
+            do_tries(run, page.caller);
     }
-    run->sums.changed += !is_same;
-}
-
-/* Does an event of a recorded scan. Returns false where it is another one. */
-static bool follow_scan(struct run *run, const struct event *event) {
-    const char *word = event->word;
-    if (!strcmp(word, "taken")) {
-        if (run->taken && run->taker != event->caller) end_takes(run);
-        run->taker = event->caller;
-        if (run->taken < THP_MAX_BATCH) run->takes[run->taken] = event->page;
-        run->taken++;
-        return true;
-    }
-    end_takes(run);
-    bool is_end = !strcmp(word, "back") || !strcmp(word, "dropped");
-    if (!is_end && strcmp(word, "split") && strcmp(word, "pinned") && strcmp(word, "used")) return false;
-    if (is_end) end_batch(run, event->caller);
-    else if (run->batches[event->caller].is_open) try_page(run, event->caller, event->page);
-    return true;
+    run->sums.changed += code != THP_OK;
 }
 
 /* Does an event under the policy. */
 static void follow(struct run *run, const struct event *event) {
     uint64_t page;
-    if (!follow_scan(run, event)) {
-        if (!strcmp(event->word, "alloc")) {
-            demand(thp_node_alloc(&run->node, event->caller, &page));
-            run->sums.huge++;
-        } else if (!strcmp(event->word, "close")) {
-            demand(thp_node_close(&run->node, event->caller));
-        } else {
-            call_page(run, event);
-        }
-        run->calls++;
-        if (is_due(run)) scan_by_policy(run);
+    if (event->word >= TAKEN) {
+        if (run->when == RECORDED) follow_scan(run, event);
+        return;
     }
-    note_held(run);
-}
-
-/* Begins the node of a line `node N blocks B order O underused T`. */
-static void begin(struct run *run, const struct policy *policy, const char *text) {
-    uint32_t blocks = 0, order = THP_MAX_ORDER, threshold = THP_UNDERUSED_OFF;
-    char recorded[8] = "off";
-    if (sscanf(text, "node %*u blocks %" SCNu32 " order %" SCNu32 " underused %7s", &blocks, &order, recorded) < 1)
-        fail(1, "no line of a node");
-    const char *chosen = strcmp(policy->threshold, "recorded") ? policy->threshold : recorded;
-    if (strcmp(chosen, "off")) threshold = (uint32_t)strtoul(chosen, NULL, 10);
-    if (threshold >= 1U << order) threshold = THP_UNDERUSED_OFF;
-    *run = (struct run){.policy = policy, .node = THP_NODE_INIT, .subpages = 1U << order, .columns = {.width = 1}};
-    demand(thp_node_create_counting(&run->node, blocks, order, threshold));
-}
-
-/* Ends a node, and prints its numbers. */
-static void end(struct run *run) {
     end_takes(run);
-    for (uint32_t caller = 0; caller < THP_MAX_CALLERS; caller++)
-        if (run->batches[caller].is_open) do_tries(run, caller);
-    struct sums *sums = &run->sums;
+    if (event->word == ALLOC) demand(run, thp_node_alloc(&run->node, event->caller, &page));
+    else if (event->word == CLOSE) demand(run, thp_node_close(&run->node, event->caller));
+    else call_page(run, event);
+    run->sums.huge += event->word == ALLOC;
+    run->calls++;
+    uint64_t held = stats_of(run).frames_held;
+    if ((run->when == EVENTS && (double)run->calls >= run->amount) || (run->when == HELD && (double)held >= run->amount)) {
+        scan_by_policy(run);
+        held = stats_of(run).frames_held;
+    }
+    if (held > run->sums.peak) run->sums.peak = held;
+}
+
+/* Makes a run of a node; null where that isn't possible. */
+struct run *start_run(uint32_t blocks, uint32_t order, uint32_t threshold, uint32_t when, double amount, uint32_t take) {
+    struct run *run = malloc(sizeof *run);
+    if (!run) return NULL;
+    *run = (struct run){.node = THP_NODE_INIT, .subpages = 1U << order, .when = when, .amount = amount, .take = take, .now = -1};
+    if (threshold >= run->subpages) threshold = THP_UNDERUSED_OFF;
+    demand(run, thp_node_create_counting(&run->node, blocks, order, threshold));
+    if (run->code == THP_OK) return run;
+    free(run);
+    return NULL;
+}
+
+/* Does events. Returns a thp_code; where it isn't THP_OK, `failed` is the event's place, and the run can't continue. */
+thp_code follow_events(struct run *run, const struct event *events, uint32_t count, uint32_t *failed) {
+    for (*failed = 0; *failed < count; ++*failed) {
+        if (run->now < 0) run->now = run->last_scan = events[*failed].at;
+        pass_time(run, events[*failed].at);
+        follow(run, &events[*failed]);
+        if (run->code != THP_OK) break;
+    }
+    return run->code;
+}
+
+/* Ends a run; stores its numbers. */
+void end_run(struct run *run, struct sums *sums) {
+    end_takes(run);
+    for (uint32_t caller = 0; caller <= UINT8_MAX; caller++) do_tries(run, caller);
     thp_stats stats = stats_of(run);
+    *sums = run->sums;
     sums->split = stats.split_page;
     sums->huge -= stats.split_page;
     sums->failed += stats.split_page_failed;
-    printf("node %" PRIu64 " %" PRIu64 " %" PRIu64 " %" PRIu64 " %" PRIu64 " %" PRIu64 " %" PRIu64 " %.3f %.6f\n", sums->scans,
-           sums->split, sums->failed, sums->back, sums->peak, sums->huge, sums->changed, sums->held, sums->weight);
-    for (uint32_t i = 0; i < run->columns.count; i++)
-        printf("column %" PRIu64 " %" PRIu64 "\n", i + 1 < run->columns.count ? run->columns.width : run->columns.in_last,
-               run->columns.most[i]);
-    demand(thp_node_destroy(&run->node));
-    run->policy = NULL;
-}
-
-/* Reads a number and the space after it; 0 where there is none. */
-static uint64_t number_at(const char **text) {
-    uint64_t number = 0;
-    for (; **text >= '0' && **text <= '9'; ++*text) number = 10 * number + (uint64_t)(**text - '0');
-    if (**text == ' ') ++*text;
-    return number;
-}
-
-/* Reads an event's line. */
-static struct event event_of(const char *text) {
-    struct event event = {.caller = (uint32_t)number_at(&text)};
-    size_t length = strcspn(text, " \n");
-    if (length == 0 || length >= sizeof event.word || event.caller >= THP_MAX_CALLERS) fail(1, "no event");
-    memcpy(event.word, text, length);
-    text += length + (text[length] == ' ');
-    event.page = number_at(&text);
-    event.first = (uint32_t)number_at(&text);
-    event.count = (uint32_t)number_at(&text);
-    return event;
-}
-
-/* The time of the next event. The first event of a node is when its time begins. */
-static double time_of(struct run *run, FILE *times) {
-    double at = run->is_timed ? run->now + 1 : 0;
-    if (times && fscanf(times, "%lf", &at) != 1) fail(2, "there is no time of this event");
-    if (!(at >= 0 && at <= LATEST)) fail(2, "its time is no number of seconds from 0 to 10^10");
-    if (!run->is_timed) run->now = run->last_scan = at;
-    run->is_timed = true;
-    if (at < run->now) fail(2, "its time is before that of the event before");
-    return at;
-}
-
-int main(int argc, char **argv) {
-    static char text[LINE];
-    static struct run run;
-    if (argc != 5 && argc != 6) return 2;
-    struct policy policy = {.threshold = argv[1], .when = argv[2], .amount = strtod(argv[3], NULL), .take = argv[4]};
-    FILE *times = argc == 6 ? fdopen(atoi(argv[5]), "r") : NULL;
-    if (argc == 6 && !times) fail(1, "there are no times");
-    while (fgets(text, sizeof text, stdin)) {
-        line_number++;
-        if (!strncmp(text, "node ", 5) || !strncmp(text, "end", 3)) {
-            if (run.policy) end(&run);
-            if (*text == 'n') begin(&run, &policy, text);
-        } else if (run.policy) {
-            struct event event = event_of(text);
-            pass_time(&run, time_of(&run, times));
-            follow(&run, &event);
-        }
-    }
-    if (times && fscanf(times, "%*s") != EOF) fail(2, "there are more times than events");
-    return fflush(stdout) || ferror(stdout) ? 1 : 0;
+    thp_node_destroy(&run->node);
+    free(run);
 }

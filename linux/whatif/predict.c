@@ -1,4 +1,4 @@
-/* Predicts what a scan of the shrinker does with huge pages: a shared library over libthp, for linux/whatif/predictor.py.
+/* Predicts what a scan of the shrinker does with huge pages, over libthp; for linux/whatif/predictor.py.
  *
  * Each page is predicted by itself. A counting node of libthp gets one page and is brought to the page's state by calls, each of which
  * stands for what the kernel did; then the node is scanned once. How often a subpage is mapped decides nothing that is reported, only
@@ -13,13 +13,12 @@
  *  - A page that was partly mapped once and is mapped whole again is still split: a mapping is removed and added again.
  */
 #include <stdbool.h>
-#include <string.h>
 #include <thp.h>
 
 enum { WORDS = 8, CALLER = 0, OFF = 511 };
 enum { SPLIT = 1, UNDERUSED = 2, PINNED = 4 };
 
-/* A page. linux/whatif/page_plan.py packs it. Sets of subpages are as in thp_done. */
+/* A page. linux/whatif/page_plan.py packs it. In a set, subpage i is bit i % 64 of word i / 64. */
 struct page {
     uint64_t zero[WORDS];   /* zero-filled, and a split drops them */
     uint64_t mapped[WORDS]; /* mapped by PTEs */
@@ -39,49 +38,31 @@ struct fate {
 /* A node with its page. */
 struct model {
     const struct page *page;
+    uint32_t size; /* subpages */
     thp_node node;
-    uint64_t number, released[WORDS];
-    uint32_t outcome; /* of the last unmap */
+    uint64_t number;
 };
 
-typedef thp_code call(struct model *, uint32_t first, uint32_t count);
+/* A call about a range of subpages. */
+typedef thp_code call(thp_node *node, uint32_t caller, uint64_t page, uint32_t first, uint32_t count);
 
 /* Returns from a function with the code of a call that fails. */
 #define TRY(made) do { thp_code code = (made); if (code != THP_OK) return code; } while (0)
-
-static uint32_t size_of(const struct model *model) {
-    return 1U << model->page->order;
-}
 
 static bool has(const uint64_t *set, uint32_t subpage) {
     return set[subpage / 64] >> subpage % 64 & 1;
 }
 
-static thp_code write(struct model *model, uint32_t first, uint32_t count) {
-    return thp_node_write(&model->node, CALLER, model->number, first, count);
-}
-
-static thp_code zero(struct model *model, uint32_t first, uint32_t count) {
-    return thp_node_zero(&model->node, CALLER, model->number, first, count);
-}
-
-static thp_code map(struct model *model, uint32_t first, uint32_t count) {
-    return thp_node_map_sub(&model->node, CALLER, model->number, first, count);
-}
-
-static thp_code unmap(struct model *model, uint32_t first, uint32_t count) {
+static thp_code unmap(thp_node *node, uint32_t caller, uint64_t page, uint32_t first, uint32_t count) {
     thp_done done;
-    TRY(thp_node_unmap_sub(&model->node, CALLER, model->number, first, count, &done));
-    for (int i = 0; i < WORDS; i++) model->released[i] |= done.released[i];
-    model->outcome = done.outcome;
-    return THP_OK;
+    return thp_node_unmap_sub(node, caller, page, first, count, &done);
 }
 
 /* Makes a call for each run of subpages that are in a set, or that aren't. */
 static thp_code call_runs(struct model *model, call *made, const uint64_t *set, bool are_in) {
-    for (uint32_t first = 0, end; first < size_of(model); first = end) {
-        for (end = first + 1; end < size_of(model) && has(set, end) == has(set, first);) end++;
-        if (has(set, first) == are_in) TRY(made(model, first, end - first));
+    for (uint32_t first = 0, end; first < model->size; first = end) {
+        for (end = first + 1; end < model->size && has(set, end) == has(set, first);) end++;
+        if (has(set, first) == are_in) TRY(made(&model->node, CALLER, model->number, first, end - first));
     }
     return THP_OK;
 }
@@ -90,26 +71,26 @@ static thp_code call_runs(struct model *model, call *made, const uint64_t *set, 
 static thp_code fill(struct model *model, const uint64_t *zeros) {
     thp_scan scan;
     TRY(thp_node_alloc(&model->node, CALLER, &model->number));
-    if (model->page->is_queued) return call_runs(model, write, zeros, false);
-    TRY(write(model, 0, size_of(model)));
+    if (model->page->is_queued) return call_runs(model, thp_node_write, zeros, false);
+    TRY(thp_node_write(&model->node, CALLER, model->number, 0, model->size));
     TRY(thp_node_scan(&model->node, CALLER, 1, &scan));
-    return scan.used == 1 ? call_runs(model, zero, zeros, true) : THP_NO_CODE;
+    return scan.used == 1 ? call_runs(model, thp_node_zero, zeros, true) : THP_NO_CODE;
 }
 
 /* Maps the page as it is mapped, from the one PMD mapping that an allocation has. Unmaps come last. */
 static thp_code map_all(struct model *model) {
     const struct page *page = model->page;
     bool has_holes = false;
-    for (uint32_t i = 0; i < size_of(model); i++) has_holes |= !page->is_whole && !has(page->mapped, i);
+    for (uint32_t i = 0; i < model->size; i++) has_holes |= !page->is_whole && !has(page->mapped, i);
     if (page->is_partly && !has_holes) { /* partly mapped once, mapped whole again */
         TRY(thp_node_split_pmd(&model->node, CALLER, model->number));
-        TRY(unmap(model, 0, 1));
-        TRY(map(model, 0, 1));
+        TRY(unmap(&model->node, CALLER, model->number, 0, 1));
+        TRY(thp_node_map_sub(&model->node, CALLER, model->number, 0, 1));
         if (!page->is_whole) return THP_OK;
         TRY(thp_node_map_whole(&model->node, CALLER, model->number));
-        TRY(unmap(model, 0, size_of(model)));
+        TRY(unmap(&model->node, CALLER, model->number, 0, model->size));
     }
-    if (page->is_whole) return call_runs(model, map, page->mapped, true);
+    if (page->is_whole) return call_runs(model, thp_node_map_sub, page->mapped, true);
     TRY(thp_node_split_pmd(&model->node, CALLER, model->number));
     return call_runs(model, unmap, page->mapped, false);
 }
@@ -126,24 +107,23 @@ static thp_code scan_page(struct model *model, struct fate *fate) {
     return THP_OK;
 }
 
-/* Unmaps a page that was split, which releases the frames that the split kept; stores the others. */
+/* Stores the subpages of a page that was split whose frames were given back: they can't be mapped. */
 static thp_code find_given(struct model *model, const struct fate *fate, uint64_t *given) {
     uint32_t count = 0;
-    memset(model->released, 0, sizeof model->released);
-    TRY(call_runs(model, unmap, model->page->mapped, true));
-    if (model->page->is_whole) TRY(unmap(model, 0, size_of(model)));
-    for (uint32_t i = 0; i < size_of(model); i++)
-        if (!has(model->released, i)) {
-            given[i / 64] |= (uint64_t)1 << i % 64;
-            count++;
-        }
-    return model->outcome == THP_FREED && count == fate->frames ? THP_OK : THP_NO_CODE;
+    for (uint32_t i = 0; i < model->size; i++) {
+        thp_code code = thp_node_map_sub(&model->node, CALLER, model->number, i, 1);
+        if (code == THP_OK) continue;
+        if (code != THP_GONE) return code;
+        given[i / 64] |= (uint64_t)1 << i % 64;
+        count++;
+    }
+    return count == fate->frames ? THP_OK : THP_NO_CODE;
 }
 
 static thp_code predict_page(struct model *model, uint32_t threshold, struct fate *fate, uint64_t *given) {
     static const uint64_t none[WORDS];
     const struct page *page = model->page;
-    uint32_t most = size_of(model) - 1;
+    uint32_t most = model->size - 1;
     bool is_off = threshold == OFF || threshold > most;
     TRY(thp_node_create_counting(&model->node, 1, page->order, threshold < most ? threshold : most));
     TRY(fill(model, is_off && !page->is_partly ? none : page->zero));
@@ -157,14 +137,11 @@ static thp_code predict_page(struct model *model, uint32_t threshold, struct fat
  * each page. Returns a thp_code; where it isn't THP_OK, `failed` is the page's place. THP_NO_CODE: the page isn't in the state that its
  * calls make. */
 thp_code predict(const struct page *pages, uint32_t count, uint32_t threshold, struct fate *fates, uint64_t *given, uint32_t *failed) {
-    for (uint32_t i = 0; i < count; i++) {
-        struct model model = {.page = &pages[i], .node = THP_NODE_INIT};
-        thp_code code = predict_page(&model, threshold, &fates[i], given ? &given[(size_t)i * WORDS] : NULL);
+    for (*failed = 0; *failed < count; ++*failed) {
+        struct model model = {.page = &pages[*failed], .size = 1U << pages[*failed].order, .node = THP_NODE_INIT};
+        thp_code code = predict_page(&model, threshold, &fates[*failed], given ? &given[(size_t)*failed * WORDS] : NULL);
         thp_node_destroy(&model.node); /* it is empty where it couldn't be created */
-        if (code != THP_OK) {
-            *failed = i;
-            return code;
-        }
+        if (code != THP_OK) return code;
     }
     return THP_OK;
 }

@@ -3,13 +3,11 @@
 from __future__ import annotations
 
 import ctypes
-import os
 from array import array
 from collections import Counter, defaultdict
-from concurrent.futures import ThreadPoolExecutor
 from contextlib import suppress
 from functools import lru_cache
-from typing import Iterable, Mapping, Sequence
+from typing import Any, Iterable, Mapping, Sequence
 
 from ..common.errors import RunFailed, Unavailable
 from ..common.folios import Folio
@@ -19,22 +17,33 @@ from .page_plan import SET, NotPredictable, plan_page
 from .rows import OFF, Moved, Row, Share, label
 from .snapshot import Snapshot
 
-CHUNK = 2048  # pages that a thread predicts at a time
 SPLIT, UNDERUSED, PINNED = 1, 2, 4  # outcomes, as predict.c has them
 FATE = 8  # bytes of a fate
 
 
 class Library:
-    """predict.c, compiled with libthp, at a path. Unavailable where it can't be loaded."""
+    """predict.c and policies.c, compiled with libthp, at a path. Unavailable where it can't be loaded."""
 
     def __init__(self, path: str) -> None:
         try:
-            self._library = ctypes.CDLL(path)
+            self.calls = ctypes.CDLL(path)
         except OSError as error:
             raise Unavailable(f"the helper {escape(path)} can't be loaded: {escape(str(error))}") from error
         pointer, number = ctypes.c_void_p, ctypes.c_uint32
-        self._library.predict.argtypes = [pointer, number, number, pointer, pointer, pointer]
-        self._library.words_of.restype = ctypes.c_char_p
+        types: dict[str, list[Any]] = {  # of the result and of the words of a call
+            "predict": [number, pointer, number, number, pointer, pointer, pointer],
+            "words_of": [ctypes.c_char_p, number],
+            "start_run": [pointer, number, number, number, number, ctypes.c_double, number],
+            "follow_events": [number, pointer, pointer, number, pointer],
+            "end_run": [None, pointer, pointer],
+        }
+        for name, (result, *words) in types.items():
+            call = getattr(self.calls, name)
+            call.restype, call.argtypes = result, words
+
+    def words(self, code: int) -> str:
+        """Returns a code of libthp in words."""
+        return str(self.calls.words_of(code).decode("ascii"))
 
     def predict(
         self, records: Sequence[bytes], frames: Sequence[int], threshold: int, with_given: bool = False
@@ -43,25 +52,20 @@ class Library:
         set of subpages whose frames come back. RunFailed, with the page's first frame, where libthp refuses a call."""
         fates, failed = ctypes.create_string_buffer(len(records) * FATE), ctypes.c_uint32()
         given = ctypes.create_string_buffer(len(records) * SET) if with_given else None
-        code = self._library.predict(b"".join(records), len(records), threshold, fates, given, ctypes.byref(failed))
+        code = self.calls.predict(b"".join(records), len(records), threshold, fates, given, ctypes.byref(failed))
         if code:
-            why = self._library.words_of(code).decode("ascii")
-            raise RunFailed(f"the huge page of frame {frames[failed.value]} can't be predicted at {label(threshold)}: {why}")
+            why = f"can't be predicted at {label(threshold)}: {self.words(code)}"
+            raise RunFailed(f"the huge page of frame {frames[failed.value]} {why}")
         return fates.raw, given.raw if given else b""
-
-
-def helper_with_libthp(name: str) -> str:
-    """Returns the path of a helper that is linked with libthp. Unavailable where it isn't built."""
-    try:
-        return helper(name)
-    except Unavailable as error:
-        raise Unavailable(f"no libthp (a release has it; in a checkout: make c, then make -C linux): {error}") from error
 
 
 @lru_cache(maxsize=None)
 def load_library() -> Library:
-    """Returns the library, loaded once. Unavailable where it can't be."""
-    return Library(helper_with_libthp("predict.so"))
+    """Returns the library, loaded once. Unavailable where it isn't built, or can't be loaded."""
+    try:
+        return Library(helper("predict.so"))
+    except Unavailable as error:
+        raise Unavailable(f"no libthp (a release has it; in a checkout: make c, then make -C linux): {error}") from error
 
 
 class Predictor:
@@ -84,7 +88,7 @@ class Predictor:
                 try:
                     number = self._number(folio, snapshot.locked_are_tried)
                 except NotPredictable as why:
-                    snapshot.left_out[why.reason.value] += 1
+                    snapshot.left_out[str(why)] += 1
                     continue
                 self.folios.append(folio)
                 self.plans.append(number)
@@ -99,52 +103,44 @@ class Predictor:
             self._firsts.append(folio.frame)
         return number
 
-    def _run(self, thresholds: Iterable[int]) -> None:
-        """Predicts what was not predicted yet at these thresholds, which run side by side."""
-        records = list(self._records)
-        jobs = [
-            (threshold, first)
-            for threshold in dict.fromkeys(thresholds)
-            for first in range(len(self._fates.setdefault(threshold, array("I"))) // 2, len(records), CHUNK)
-        ]
+    def _fate(self, threshold: int, plan: int) -> tuple[int, int]:
+        """Returns the outcome of pages with a plan of this number, and how many frames come back of each."""
+        fates = self._fates.setdefault(threshold, array("I"))
+        known = len(fates) // 2
+        if plan >= known:
+            fates.frombytes(self._library.predict(list(self._records)[known:], self._firsts[known:], threshold)[0])
+        return fates[2 * plan], fates[2 * plan + 1]
 
-        def predict(job: tuple[int, int]) -> bytes:
-            threshold, part = job[0], slice(job[1], job[1] + CHUNK)
-            return self._library.predict(records[part], self._firsts[part], threshold)[0]
-
-        with ThreadPoolExecutor(min(4, os.cpu_count() or 1)) as pool:
-            for (threshold, _), fates in zip(jobs, pool.map(predict, jobs)):
-                self._fates[threshold].frombytes(fates)
+    def frames_back(self, threshold: int, plan: int) -> int | None:
+        """Returns how many frames come back of a page with a plan of this number; None where it stays whole."""
+        outcome, frames = self._fate(threshold, plan)
+        return frames if outcome & SPLIT else None
 
     def _row(self, threshold: int, counts: Mapping[int, int]) -> Row:
         """Returns the sums of pages, given how many there are of each plan."""
-        fates = self._fates[threshold]
-        split = underused = pinned = frames = 0
-        for number, count in counts.items():
-            outcome = fates[2 * number]
-            if outcome & SPLIT:
-                split += count
-                frames += count * fates[2 * number + 1]
-                underused += count if outcome & UNDERUSED else 0
-            elif outcome & PINNED:
-                pinned += count
-        return Row(threshold, sum(counts.values()), split, underused, pinned, frames)
+        fates = [(count, *self._fate(threshold, number)) for number, count in counts.items()]
+        split = [(count, outcome, frames) for count, outcome, frames in fates if outcome & SPLIT]
+        return Row(
+            threshold,
+            pages=sum(counts.values()),
+            split=sum(count for count, _, _ in split),
+            underused=sum(count for count, outcome, _ in split if outcome & UNDERUSED),
+            pinned=sum(count for count, outcome, _ in fates if outcome & PINNED),
+            frames=sum(count * frames for count, _, frames in split),
+        )
 
     def run(self, thresholds: Sequence[int]) -> list[Row]:
         """Returns the sums for these thresholds."""
-        self._run(thresholds)
         counts = Counter(self.plans)
         return [self._row(threshold, counts) for threshold in thresholds]
 
     def by_group(self, thresholds: Sequence[int]) -> dict[str, list[Row]]:
         """Returns the sums of each control group."""
-        self._run(thresholds)
         return {name: [self._row(t, counts) for t in thresholds] for name, counts in sorted(self._groups.items())}
 
     def by_process(self, threshold: int) -> dict[int, Share]:
         """Returns what each process has of it. A page that several map counts with the one that maps most of it by PMD
         entries, the lowest number where that is equal; lost PMD mappings count with each."""
-        self._run([threshold])
         if not self._owners:
             self._owners.update((number, owners_of(folio)) for folio, number in zip(self.folios, self.plans))
         out: dict[int, Share] = defaultdict(Share)
@@ -160,10 +156,10 @@ class Predictor:
 
     def frames_given(self, threshold: int) -> dict[int, int]:
         """Returns of each page that is split the subpages whose frames come back, by frame."""
-        fates, given = self._library.predict(list(self._records), self._firsts, threshold, True)
+        given = self._library.predict(list(self._records), self._firsts, threshold, True)[1]
         sets = [int.from_bytes(given[at : at + SET], "little") for at in range(0, len(given), SET)]
-        split = [outcome & SPLIT for outcome in array("I", fates)[::2]]
-        return {folio.frame: sets[number] for folio, number in zip(self.folios, self.plans) if split[number]}
+        pairs = zip(self.folios, self.plans)
+        return {folio.frame: sets[plan] for folio, plan in pairs if self.frames_back(threshold, plan) is not None}
 
     def moved_rows(self, pairs: Iterable[tuple[Folio | None, Folio | None]], thresholds: Sequence[int]) -> dict[int, Moved]:
         """Returns for each threshold by how many split pages and frames a row differs at most between two readings of the same
@@ -175,21 +171,12 @@ class Predictor:
             return None
 
         numbers = [(number_of(first), number_of(second)) for first, second in pairs]
-        self._run(thresholds)
         out: dict[int, Moved] = {}
         for threshold in thresholds:
-            split = frames = 0
-            for pair in numbers:
-                first, second = (None if number is None else self.frames_back(threshold, number) for number in pair)
-                split += (first is None) != (second is None)
-                frames += abs((first or 0) - (second or 0))
-            out[threshold] = Moved(split, frames)
+            back = [[None if number is None else self.frames_back(threshold, number) for number in pair] for pair in numbers]
+            split = sum((first is None) != (second is None) for first, second in back)
+            out[threshold] = Moved(split, sum(abs((first or 0) - (second or 0)) for first, second in back))
         return out
-
-    def frames_back(self, threshold: int, plan: int) -> int | None:
-        """Returns how many frames come back of a page with a plan of this number; None where it stays whole."""
-        outcome, frames = self._fates[threshold][2 * plan : 2 * plan + 2]
-        return frames if outcome & SPLIT else None
 
     def find_highest(self, frames: int) -> int | None:
         """Returns the highest threshold that gives at least so many frames back, found by halving: a lower threshold splits

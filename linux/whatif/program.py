@@ -8,50 +8,35 @@ import os
 import sys
 import time
 from contextlib import contextmanager, suppress
-from typing import Callable, Iterator, NoReturn, Sequence
+from typing import Callable, Iterator, NoReturn, Sequence, TextIO
 
 from ..common.errors import DIFFERS, DONE, InputFault, Unavailable, signals_wait
-from ..common.files import NewFile
-from ..common.text import escape
+from ..common.files import NewFile, named_faults
 from ..common.tool import run_tool
 from .look import ProcessChoice, SnapshotTaker
 from .options import parser
 from .predictor import Predictor, load_library
-from .report import FRAMES_A_MEBIBYTE, Report, cost_table, group_table, last_line, process_table, report_of, row_json, shares_json, table
-from .rows import OFF, label
+from .report import Report, cost_table, group_table, last_line, picture, process_table, report_of, shares_json, table
+from .rows import FRAMES_A_MEBIBYTE, OFF, label
 from .snapshot import NAME, Snapshot, list_notes
 
 SLOW = 1.0  # seconds after which progress is shown
 
 
-class Output(NewFile):
-    """A new file, opened before the work, so that a path that can't be used is reported first."""
-
-    def __init__(self, path: str) -> None:
-        super().__init__(path)
-        self._path = path
-
-    def write(self, text: str, flush: bool = False) -> None:
-        """Writes a text. InputFault where that isn't possible."""
-        try:
-            print(text, end="", file=self.file, flush=flush)
-        except OSError as error:
-            raise InputFault(f"{escape(self._path)} can't be written: {error.strerror}") from error
-
-
 @contextmanager
-def open_output(path: str | None) -> Iterator[Output | None]:
-    """Gives the output of a path, or nothing where there is no path or it is `-`. The file is removed again where the
-    work fails, or writes nothing."""
+def open_output(path: str | None) -> Iterator[TextIO | None]:
+    """Gives the new file of a path, opened before the work, so that a path that can't be used is reported first; nothing where there is
+    no path or it is `-`. The file is removed again where the work fails, or writes nothing. InputFault where it can't be written."""
     if path is None or path == "-":
         yield None
         return
     out, is_done = None, False
     try:
         with signals_wait():
-            out = Output(path)
-        yield out
-        out.write("", flush=True)
+            out = NewFile(path)
+        yield out.file
+        with named_faults(path, "can't be written"):
+            out.file.flush()
         is_done = os.fstat(out.file.fileno()).st_size > 0
     finally:
         if out and not is_done:
@@ -71,6 +56,8 @@ def choose(options: argparse.Namespace) -> ProcessChoice:
     """Returns what is to be looked at. InputFault where nothing is selected, Unavailable where nothing can be looked at."""
     if not (options.pid or options.cgroup or options.all):
         raise InputFault(f"{options.command} needs --pid, --cgroup or --all (--help has the options)")
+    if options.all and (options.pid or options.cgroup):
+        raise InputFault("--all selects every process: without --pid and --cgroup")
     demand_root()
     return ProcessChoice(options.pid, options.cgroup, options.all)
 
@@ -80,11 +67,10 @@ def taker(options: argparse.Namespace) -> SnapshotTaker:
     began = time.monotonic()
 
     def show(what: str, done: int, of: int) -> None:
-        if time.monotonic() - began > SLOW:
+        if sys.stderr.isatty() and options.command != "watch" and time.monotonic() - began > SLOW:
             print(f"\r{what}: {done} of {of}\033[K", end="\n" if done == of else "", file=sys.stderr, flush=True)
 
-    progress = show if sys.stderr.isatty() and options.command != "watch" else None
-    return SnapshotTaker(options.orders, options.with_kernel, options.queued == "all", options.memory, progress)
+    return SnapshotTaker(options.orders, options.with_kernel, options.queued == "all", int(options.memory), show)
 
 
 def take_snapshots(options: argparse.Namespace, choice: ProcessChoice | None) -> list[Snapshot]:
@@ -93,7 +79,7 @@ def take_snapshots(options: argparse.Namespace, choice: ProcessChoice | None) ->
         return [taker(options).take(choice)]
     from .stored import StoredReader
 
-    reader = StoredReader(options.memory)
+    reader = StoredReader(int(options.memory))
     return [reader.read(path) for path in options.files]
 
 
@@ -102,36 +88,36 @@ def command_tables(options: argparse.Namespace) -> int:
     choice = None if options.files else choose(options)
     load_library()
     with open_output(options.svg) as svg:
-        return print_tables(options, take_snapshots(options, choice), svg)
+        snapshots = take_snapshots(options, choice)
+        predictor = Predictor(*snapshots)
+        report = report_of(predictor, snapshots, options.thresholds)
+        if svg:
+            svg.write(picture(report.rows, report.today))
+        if not predictor.folios:
+            print("no huge pages are mapped here", file=sys.stderr)
+        print(text_of(options, predictor, report))
+    return report.status
 
 
-def print_tables(options: argparse.Namespace, snapshots: Sequence[Snapshot], svg: Output | None) -> int:
-    """Prints the tables, or the JSON object; returns the status."""
-    predictor = Predictor(*snapshots)
-    report = report_of(predictor, snapshots, options.thresholds)
+def text_of(options: argparse.Namespace, predictor: Predictor, report: Report) -> str:
+    """Returns the tables, or the JSON object."""
     thresholds = [row.threshold for row in report.rows]
     shares = {each: predictor.by_process(each) for each in thresholds} if options.by_process else {}
     groups = predictor.by_group(thresholds) if options.by_cgroup else {}
-    if svg:
-        from .picture import picture
-
-        svg.write(picture(report.rows, report.today))
-    if not predictor.folios:
-        print("no huge pages are mapped here", file=sys.stderr)
     if options.json:
         parts: dict[str, object] = {}
         if shares:
             parts["by_process"] = {label(each): shares_json(found, predictor.names) for each, found in shares.items()}
         if groups:
-            parts["by_cgroup"] = {name: [row_json(row, report.today) for row in rows] for name, rows in groups.items()}
-        print(json.dumps(report.to_json(parts, is_look=not options.files), indent=1))
-        return report.status
-    tables = [table(report.rows, report.today)] if predictor.folios else []
-    tables += [process_table(shares, predictor.names)] if options.by_process and tables else []
-    tables += [group_table(groups)] if options.by_cgroup and tables else []
-    notes = report.warnings() if options.files else list_notes(snapshots[0], report.moved)
-    print("\n".join([*notes, *(["\n\n".join(tables)] if tables else []), last_line(report.left_out)]))
-    return report.status
+            parts["by_cgroup"] = {name: [row.to_json(report.today) for row in rows] for name, rows in groups.items()}
+        return json.dumps(report.to_json(parts, is_look=not options.files), indent=1)
+    tables = []
+    if predictor.folios:
+        tables.append(table(report.rows, report.today))
+        tables += [process_table(shares, predictor.names)] if options.by_process else []
+        tables += [group_table(groups)] if options.by_cgroup else []
+    notes = report.warnings() if options.files else list_notes(report.snapshots[0], report.moved)
+    return "\n".join([*notes, *(["\n\n".join(tables)] if tables else []), last_line(report.left_out)])
 
 
 def command_snapshot(options: argparse.Namespace) -> int:
@@ -141,13 +127,12 @@ def command_snapshot(options: argparse.Namespace) -> int:
     choice = choose(options)
     with open_output(options.output) as out:
         snapshot = taker(options).take(choice)
-        for line in list_notes(snapshot) + [last_line(snapshot.left_out)]:
-            print(line, file=sys.stderr)
-        for part in json_parts(snapshot):
-            if out:
-                out.write(part)
-            else:
-                print(part, end="")
+        print("\n".join(list_notes(snapshot) + [last_line(snapshot.left_out)]), file=sys.stderr)
+        if out is None:
+            sys.stdout.writelines(json_parts(snapshot))
+        else:
+            with named_faults(options.output, "can't be written"):
+                out.writelines(json_parts(snapshot))
     return Report([snapshot]).status
 
 
@@ -163,8 +148,8 @@ def command_target(options: argparse.Namespace) -> int:
     report = report_of(predictor, snapshots, [found or 0])
     row, shares = report.rows[0], predictor.by_process(found or 0)
     if options.json:
-        out = {"asked": options.mebibytes, "reached": found is not None, "row": row_json(row, None)}
         rest = report.to_json({"cost": shares_json(shares, predictor.names)})
+        out = {"asked": options.mebibytes, "reached": found is not None, "row": row.to_json(None)}
         print(json.dumps({**out, **{name: rest[name] for name in ("cost", "could_move", "unread")}}, indent=1))
         return report.status
     if found is None:
@@ -180,25 +165,23 @@ def command_target(options: argparse.Namespace) -> int:
 
 def command_watch(options: argparse.Namespace) -> int:
     """Looks again and again; the status is that of the last look."""
-    from .metrics import MetricsFile
+    from .metrics import write_metrics
     from .watch import watch
 
     choice = choose(options)
     load_library()
-    metrics = None if options.prometheus is None else MetricsFile(options.prometheus)
-    looks, status = taker(options), DONE
+    if options.prometheus is not None:
+        write_metrics(options.prometheus, None)
+    looks = taker(options)
 
     def look_once() -> Report:
-        nonlocal status
         snapshot = looks.take(choice)
         report = report_of(Predictor(snapshot), [snapshot], options.thresholds)
-        status = report.status
-        if metrics:
-            metrics.write(report)
+        if options.prometheus is not None:
+            write_metrics(options.prometheus, report)
         return report
 
-    watch(look_once, options.seconds, options.rounds, as_json=options.json)
-    return status
+    return watch(look_once, options.seconds, options.rounds, as_json=options.json)
 
 
 def command_verify(options: argparse.Namespace) -> int:
@@ -214,35 +197,30 @@ def command_verify(options: argparse.Namespace) -> int:
 def command_policies(options: argparse.Namespace) -> int:
     """Tries policies on journals."""
     from ..common.checker import find_checker
-    from .picture import policies_picture
-    from .policies import IllegalJournal, best_line, best_of, policies_of, policy_table, read_recording, try_policies
+    from .policies import IllegalJournal, RecordedJournal, best_line, best_of, policies_of, policy_table, try_policies
 
-    policies = policies_of(options.threshold, options.scan, options.take)
+    policies, is_timed = policies_of(options.threshold, options.scan, options.take), bool(options.times)
     times: Sequence[str | None] = options.times or [None] * len(options.journals)
     if len(times) != len(options.journals):
         raise InputFault(f"{len(times)} files of times for {len(options.journals)} journals")
-    if not options.times and any(policy.when == "seconds" for policy in policies):
+    if not is_timed and any(policy.when == "seconds" for policy in policies):
         raise InputFault("seconds:S needs the times of the events (--times FILE)")
-    with open_output(options.svg) as svg:
-        try:
-            checker = find_checker(options.checker)
-            recordings = [read_recording(path, file, checker) for path, file in zip(options.journals, times)]
-        except IllegalJournal as error:
-            print(f"{NAME}: {error}", file=sys.stderr)
-            return DIFFERS
-        outcomes, timed = try_policies(policies, recordings), bool(options.times)
-        best = best_of(outcomes, options.best) if options.best else None
-        lacks_contents = any(policy.threshold.isdigit() for policy in policies) and not all(
-            recording.has_contents() for recording in recordings
-        )
-        if svg:
-            svg.write(policies_picture(outcomes))
+    load_library()
+    checker = find_checker(options.checker)
+    try:
+        recordings = [RecordedJournal(path, file, checker) for path, file in zip(options.journals, times)]
+    except IllegalJournal as error:
+        print(f"{NAME}: {error}", file=sys.stderr)
+        return DIFFERS
+    outcomes = try_policies(policies, recordings, is_timed)
+    best = best_of(outcomes, options.best) if options.best else None
+    has_contents = all(recording.has_contents for recording in recordings) or not any(each.threshold.isdigit() for each in policies)
     if options.json:
-        out = {"policies": [outcome.to_json(timed) for outcome in outcomes], "contents_recorded": not lacks_contents}
-        print(json.dumps({**out, **({"best": best.to_json(timed) if best else None} if options.best else {})}, indent=1))
+        out = {"policies": outcomes, "contents_recorded": has_contents, **({"best": best} if options.best else {})}
+        print(json.dumps(out, indent=1))
         return DONE
-    print(policy_table(outcomes, timed))
-    if lacks_contents:
+    print(policy_table(outcomes))
+    if not has_contents:
         print("no contents are recorded: each subpage counts as zero-filled, so each number splits the same pages")
     if options.best:
         print(best_line(best, options.best))

@@ -1,4 +1,4 @@
-"""What looks give: rows, what is in none of them, what was not read, and the status; as tables for people and as JSON for programs."""
+"""What looks give: rows, what is in none of them, what was not read, and the status; as tables, as JSON, and as a picture."""
 
 from __future__ import annotations
 
@@ -9,11 +9,18 @@ from typing import Any, Mapping, Sequence
 
 from ..common.errors import DONE, INCONCLUSIVE
 from .predictor import Predictor
-from .rows import DEFAULT, Moved, Row, Share, label, with_today
+from .rows import DEFAULT, FRAMES_A_MEBIBYTE, OFF, Moved, Row, Share, label, with_today
 from .snapshot import Snapshot, counted, guess_of, warnings
 
-HEAD = ("threshold", "pages split", "partly mapped", "underused", "pinned", "frames back", "MiB back", "pages kept")
-FRAMES_A_MEBIBYTE = 256
+HEAD = {
+    "threshold": "threshold", "split": "pages split", "partly_mapped": "partly mapped", "underused": "underused", "pinned": "pinned",
+    "frames_back": "frames back", "mebibytes_back": "MiB back", "kept": "pages kept",
+}
+"""The headings of a table, by the names of JSON."""
+WIDTH, HEIGHT, LEFT, RIGHT, TOP, BOTTOM = 720, 384, 64, 16, 40, 80
+STEPS = 5  # of the axis
+PARTLY, UNDERUSED, TODAY = "#4c78a8", "#f58518", "#e45756"
+LEGEND = {PARTLY: "partly mapped pages", UNDERUSED: "underused ones, too", TODAY: "the machine's setting"}
 
 
 @dataclass
@@ -53,13 +60,12 @@ class Report:
     def notes(self) -> list[str]:
         """Returns what a reader of one look's rows should know, a line each."""
         one, left_out = self.snapshots[0], self.left_out
-        lines = [one.note, guess_of(one) if one.lacking else "", last_line(left_out) if left_out else ""]
-        return [line for line in lines if line] + self.warnings()
+        return [*filter(None, (one.note, guess_of(one), last_line(left_out) if left_out else "")), *self.warnings()]
 
     def to_json(self, parts: Mapping[str, object] | None = None, is_look: bool = True) -> dict[str, Any]:
         """Returns it as a JSON object, with more parts, and with what there is about the look itself."""
         out: dict[str, Any] = {
-            "rows": [row_json(row, self.today) for row in self.rows],
+            "rows": [row.to_json(self.today) for row in self.rows],
             "could_move": {label(t): {"split": each.split, "frames_back": each.frames} for t, each in self.moved.items() if any(each)},
             "left_out": self.left_out,
             "unread": self.unread,
@@ -85,24 +91,18 @@ def report_of(predictor: Predictor, snapshots: Sequence[Snapshot], given: Sequen
 
 
 def aligned(lines: Sequence[Sequence[object]], left: int = 0) -> str:
-    """Returns lines of cells, right-aligned except the first `left` columns."""
-    texts = [[str(cell) for cell in line] for line in lines]
-    widths = [max(len(line[column]) for line in texts) for column in range(len(texts[0]))]
-    out = []
-    for line in texts:
-        cells = [c.ljust(w) if i < left else c.rjust(w) for i, (c, w) in enumerate(zip(line, widths))]
-        out.append("  ".join(cells).rstrip())
-    return "\n".join(out)
+    """Returns lines of cells, right-aligned except the first `left` columns. Numbers with a point get one digit after it."""
+    texts = [[f"{cell:.1f}" if isinstance(cell, float) else str(cell) for cell in line] for line in lines]
+    widths = [max(map(len, column)) for column in zip(*texts)]
+    rows = ([c.ljust(w) if i < left else c.rjust(w) for i, (c, w) in enumerate(zip(line, widths))] for line in texts)
+    return "\n".join("  ".join(cells).rstrip() for cells in rows)
 
 
 def table(rows: Sequence[Row], today: int | None = None) -> str:
     """Returns a line for each threshold; the machine's own is marked."""
-    lines: list[list[object]] = [[*HEAD, ""]]
-    for row in rows:
-        cells = [label(row.threshold), row.split, row.partly, row.underused, row.pinned, row.frames]
-        mark = "<- today" if row.threshold == today else ""
-        lines.append([*cells, f"{row.mebibytes:.1f}", row.kept, mark])
-    return aligned(lines)
+    objects = [row.to_json(today) for row in rows]
+    lines = [[each[name] for name in HEAD] + ["<- today" if each["today"] else ""] for each in objects]
+    return aligned([[*HEAD.values(), ""], *lines])
 
 
 def group_table(groups: dict[str, list[Row]]) -> str:
@@ -110,7 +110,7 @@ def group_table(groups: dict[str, list[Row]]) -> str:
     first: list[Row] = next(iter(groups.values()), [])
     lines: list[list[object]] = [["control group", "pages", *(label(row.threshold) for row in first)]]
     for name, rows in sorted(groups.items(), key=lambda item: (-item[1][0].pages, item[0])):
-        lines.append([name, rows[0].pages, *(f"{row.mebibytes:.1f}" for row in rows)])
+        lines.append([name, rows[0].pages, *(row.mebibytes for row in rows)])
     return "MiB back by control group:\n" + aligned(lines, 1)
 
 
@@ -120,7 +120,7 @@ def process_table(shares: dict[int, dict[int, Share]], names: dict[int, str]) ->
     lines: list[list[object]] = [["process", "name", "pages", *(label(threshold) for threshold in shares)]]
     first: dict[int, Share] = next(iter(shares.values()), {})
     for process in sorted(first, key=lambda number: (-first[number].pages, number)):
-        cells = [f"{each.get(process, Share()).mebibytes:.1f}" for each in shares.values()]
+        cells = [each.get(process, Share()).frames / FRAMES_A_MEBIBYTE for each in shares.values()]
         lines.append([process, names.get(process, "?"), first[process].pages, *cells])
     return "MiB back by process (a shared page counts once):\n" + aligned(lines, 2)
 
@@ -130,7 +130,7 @@ def cost_table(shares: dict[int, Share], names: dict[int, str]) -> str:
     lines: list[list[object]] = [["process", "name", "huge mappings lost", "pages split", "MiB back"]]
     for process, share in sorted(shares.items(), key=lambda item: (-item[1].lost, item[0])):
         if share.lost or share.split:
-            lines.append([process, names.get(process, "?"), share.lost, share.split, f"{share.mebibytes:.1f}"])
+            lines.append([process, names.get(process, "?"), share.lost, share.split, share.frames / FRAMES_A_MEBIBYTE])
     return aligned(lines, 2)
 
 
@@ -141,32 +141,59 @@ def last_line(left_out: Mapping[str, int]) -> str:
     return "left out: " + ("; ".join(parts[:4]) or "nothing") + more
 
 
-def row_json(row: Row, today: int | None) -> dict[str, Any]:
-    """Returns a row as a JSON object."""
-    return {
-        "threshold": label(row.threshold) if label(row.threshold) == "off" else row.threshold,
-        "today": row.threshold == today,
-        "pages": row.pages,
-        "split": row.split,
-        "partly_mapped": row.partly,
-        "underused": row.underused,
-        "pinned": row.pinned,
-        "frames_back": row.frames,
-        "mebibytes_back": round(row.mebibytes, 3),
-        "kept": row.kept,
-    }
-
-
 def shares_json(shares: dict[int, Share], names: dict[int, str]) -> list[dict[str, Any]]:
     """Returns the shares of processes as JSON."""
     return [
-        {
-            "process": process,
-            "name": names.get(process, "?"),
-            "pages": share.pages,
-            "split": share.split,
-            "frames_back": share.frames,
-            "huge_mappings_lost": share.lost,
-        }
+        {"process": process, "name": names.get(process, "?"), "pages": share.pages, "split": share.split, "frames_back": share.frames,
+         "huge_mappings_lost": share.lost}
         for process, share in sorted(shares.items())
     ]
+
+
+def round_up(value: float) -> float:
+    """Returns the least of 1, 2 and 5 by a power of ten that is not below a value; at least 1."""
+    unit = 1.0
+    while unit * 10 < value:
+        unit *= 10
+    return next((step * unit for step in (1, 2, 5, 10) if step * unit >= value), 1.0)
+
+
+def text_at(x: float, y: float, text: str, anchor: str = "middle", extra: str = "") -> str:
+    """Returns a text of the picture."""
+    return f'<text x="{x:.1f}" y="{y:.1f}" text-anchor="{anchor}"{extra}>{text}</text>'
+
+
+def bar(row: Row, x: float, width: float, height: float, is_today: bool) -> list[str]:
+    """Returns the bar of a row with its texts; today's setting is framed."""
+    middle, bottom = x + width / 2, HEIGHT - BOTTOM
+    frame = f' stroke="{TODAY}" stroke-width="3"' if is_today else ""
+    fill = PARTLY if row.threshold == OFF else UNDERUSED
+    out = [
+        f'<rect x="{x:.1f}" y="{bottom - height:.1f}" width="{width:.1f}" height="{height:.1f}" fill="{fill}"{frame}/>',
+        text_at(middle, bottom - height - 5, f"{row.mebibytes:.1f}"),
+        text_at(middle, bottom + 16, label(row.threshold)),
+        text_at(middle, bottom + 32, f"{row.split} of {row.pages}", extra=' font-size="10" fill="#555"'),
+    ]
+    return out + ([text_at(middle, bottom + 48, "today", extra=f' fill="{TODAY}"')] if is_today else [])
+
+
+def picture(rows: Sequence[Row], today: int | None) -> str:
+    """Returns a bar for each threshold, its height the MiB back, its number the pages split."""
+    most = round_up(max([row.mebibytes for row in rows] + [0.0]))
+    height, step = HEIGHT - TOP - BOTTOM, (WIDTH - LEFT - RIGHT) / max(1, len(rows))
+    title = "MiB that come back, and huge pages split, by max_ptes_none"
+    out = [
+        f'<svg xmlns="http://www.w3.org/2000/svg" viewBox="0 0 {WIDTH} {HEIGHT}" font-family="sans-serif" font-size="12">',
+        f'<rect width="{WIDTH}" height="{HEIGHT}" fill="white"/>',
+        text_at(LEFT, 22, title, "start", ' font-size="14"'),
+    ]
+    for number in range(STEPS + 1):
+        y = TOP + height * (1 - number / STEPS)
+        out.append(f'<line x1="{LEFT}" y1="{y:.1f}" x2="{WIDTH - RIGHT}" y2="{y:.1f}" stroke="#ddd"/>')
+        out.append(text_at(LEFT - 8, y + 4, f"{most * number / STEPS:g}", "end"))
+    for index, row in enumerate(rows):
+        out += bar(row, LEFT + step * (index + 0.15), step * 0.7, height * row.mebibytes / most, row.threshold == today)
+    for place, (colour, words) in enumerate(LEGEND.items()):
+        out.append(f'<rect x="{LEFT + 150 * place}" y="{HEIGHT - 20}" width="10" height="10" fill="{colour}"/>')
+        out.append(text_at(LEFT + 150 * place + 16, HEIGHT - 11, words, "start"))
+    return "\n".join([*out, "</svg>\n"])

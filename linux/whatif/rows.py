@@ -8,11 +8,12 @@ from __future__ import annotations
 
 import re
 from dataclasses import dataclass
-from typing import NamedTuple, Sequence
+from typing import Any, NamedTuple, Sequence
 
 from ..common.errors import InputFault
 from ..common.text import escape
 
+FRAMES_A_MEBIBYTE = 256
 OFF = 511
 DEFAULT = (OFF, 0, 16, 64, 128, 256, 409, 510)
 
@@ -35,8 +36,7 @@ def thresholds_of(text: str) -> list[int]:
 
 def with_today(thresholds: Sequence[int], today: int | None) -> list[int]:
     """`off` first, then ascending, each once; the machine's own threshold among them."""
-    every = set(thresholds) | ({today} if today is not None else set())
-    return sorted(every, key=lambda threshold: -1 if threshold == OFF else threshold)
+    return sorted({*thresholds, *(() if today is None else (today,))}, key=lambda threshold: (threshold != OFF, threshold))
 
 
 @dataclass(frozen=True)
@@ -51,19 +51,24 @@ class Row:
     frames: int  # given back, base pages
 
     @property
-    def partly(self) -> int:
-        """Pages split as partly mapped."""
-        return self.split - self.underused
-
-    @property
-    def kept(self) -> int:
-        """Pages that stay whole."""
-        return self.pages - self.split
-
-    @property
     def mebibytes(self) -> float:
         """What is given back."""
-        return self.frames * 4 / 1024
+        return self.frames / FRAMES_A_MEBIBYTE
+
+    def to_json(self, today: int | None) -> dict[str, Any]:
+        """Returns it as a JSON object."""
+        return {
+            "threshold": self.threshold if self.threshold != OFF else "off",
+            "today": self.threshold == today,
+            "pages": self.pages,
+            "split": self.split,
+            "partly_mapped": self.split - self.underused,
+            "underused": self.underused,
+            "pinned": self.pinned,
+            "frames_back": self.frames,
+            "mebibytes_back": round(self.mebibytes, 3),
+            "kept": self.pages - self.split,
+        }
 
 
 class Moved(NamedTuple):
@@ -81,8 +86,3 @@ class Share:
     split: int = 0
     frames: int = 0
     lost: int = 0  # PMD mappings
-
-    @property
-    def mebibytes(self) -> float:
-        """What is given back."""
-        return self.frames * 4 / 1024

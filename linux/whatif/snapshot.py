@@ -33,14 +33,13 @@ class Snapshot:
     left_out: Counter[str]  # what was read and is in no row, by reason
     unread: Counter[str] = field(default_factory=Counter)  # what couldn't be read and could change the answer, by reason
     names: dict[int, str] = field(default_factory=dict)  # of control groups, by inode
-    chosen: str = ""
     note: str = ""  # what a look from inside a PID namespace can't see
     looked_at: int = 0
     lacking: str = ""  # why the kernel's structures weren't read
     others: int = 0  # anonymous base pages that aren't huge
     sums: Sums = field(default_factory=Sums)
     today: int | None = None  # max_ptes_none of the machine
-    switch: bool | None = None  # shrink_underused
+    collapsed: int | None = None  # huge pages that khugepaged has made since the machine's start
     kernel: str = ""
     at: str = ""
     sampled: int = 0  # pages that were read twice
@@ -61,32 +60,26 @@ def list_notes(snapshot: Snapshot, moved: Mapping[int, Moved] | None = None) -> 
     """Returns notes that a reader of the numbers needs, a line each. `moved`: as for `warnings`."""
     folios, sums, lines = snapshot.folios, snapshot.sums, [snapshot.note] if snapshot.note else []
     whole, size = sum(folio.order == PMD_ORDER for folio in folios), sum(BASE << folio.order for folio in folios)
-    lines.append(
+    lines += [
         f"{len(folios)} huge pages ({whole} of PMD size), {mebibytes(size)} MiB, "
-        f"of {len(snapshot.processes)} processes; {mebibytes(snapshot.others * BASE)} MiB of other anonymous pages"
-    )
-    lines.append(
-        f"mapped by PMD entries: {mebibytes(sums.by_pmd)} MiB; mapped by parts alone: {mebibytes(sums.by_parts)} MiB"
-    )
+        f"of {len(snapshot.processes)} processes; {mebibytes(snapshot.others * BASE)} MiB of other anonymous pages",
+        f"mapped by PMD entries: {mebibytes(sums.by_pmd)} MiB; mapped by parts alone: {mebibytes(sums.by_parts)} MiB",
+    ]
     if sums.machine is not None:
-        lines.append(
-            f"whole machine, each page once: {mebibytes(sums.distinct)} MiB, "
-            f"by the kernel's own count {mebibytes(sums.machine)} MiB"
-        )
-    if snapshot.lacking:
-        lines.append(guess_of(snapshot))
-    else:
-        queued, partly = sum(bool(folio.is_queued) for folio in folios), sum(bool(folio.is_partly) for folio in folios)
-        pinned, locked = sum(bool(folio.pins) for folio in folios), sum(folio.is_locked for folio in folios)
-        lines.append(f"queued {queued}, partly mapped {partly}, pinned {pinned}, locked {locked}")
+        count = f"by the kernel's own count {mebibytes(sums.machine)} MiB"
+        lines.append(f"whole machine, each page once: {mebibytes(sums.distinct)} MiB, {count}")
+    states = ("queued", "is_queued"), ("partly mapped", "is_partly"), ("pinned", "pins"), ("locked", "is_locked")
+    counts = [f"{word} {sum(bool(getattr(folio, name)) for folio in folios)}" for word, name in states]
+    lines.append(guess_of(snapshot) or ", ".join(counts))
     unread = sum(any(mapping.subset & ~folio.known for mapping in folio.mappings) for folio in folios)
     lines += [f"with subpages that couldn't be read, taken as data: {unread}"] if unread else []
     return lines + warnings(snapshot, moved)
 
 
 def guess_of(snapshot: Snapshot) -> str:
-    """Returns in words that queues and pins are guessed."""
-    return f"queues and pins weren't read ({snapshot.lacking}): a guess, each page is taken as queued and not pinned"
+    """Returns in words that queues and pins are guessed, or nothing."""
+    why = snapshot.lacking
+    return f"queues and pins weren't read ({why}): a guess, each page is taken as queued and not pinned" if why else ""
 
 
 def warnings(snapshot: Snapshot, moved: Mapping[int, Moved] | None = None) -> list[str]:

@@ -8,7 +8,7 @@ import re
 from collections import Counter
 from dataclasses import fields
 from itertools import chain, groupby
-from typing import IO, Any, Callable, Iterable, Iterator, Mapping, NamedTuple, cast
+from typing import IO, Any, Callable, Iterator, Mapping
 
 from ..common.errors import InputFault
 from ..common.files import PMD_ORDER, open_input
@@ -18,94 +18,85 @@ from ..common.reader import FOLIO_COST, PIECE_COST
 from ..common.text import escape
 from .snapshot import Snapshot, Sums
 
-VERSION = 2  # of the form
+VERSION = 3  # of the form
 MOST_TEXT = 4096  # letters of a name
 DIGITS = 20  # of a number
 LINE = 1 << 20  # bytes of a line: a page that 5,000 processes map
 SECTIONS = {"processes": "{}", "names": "{}", "left_out": "{}", "unread": "{}", "changed_pages": "[]", "folios": "[]"}
 """The fields that have a line for each entry, and their brackets."""
 
-
-class Form(NamedTuple):
-    """How a value is stored: how it is read, with ValueError for what it can't be, and how it is written."""
-
-    read: Callable[[Any], Any]
-    write: Callable[[Any], Any] = lambda value: value
+Read = Callable[[Any], Any]
+"""Returns what a JSON value stands for. ValueError for one that it can't be."""
 
 
-def checked(test: Callable[[Any], object], what: str, make: Callable[[Any], Any] = lambda value: value) -> Form:
-    """Returns the form of values that pass a test, of which others are made."""
+def checked(test: Callable[[Any], object], what: str, make: Read = lambda value: value) -> Read:
+    """Returns how values are read that pass a test, and of which others are made."""
 
     def read(value: Any) -> Any:
         if not test(value):
             raise ValueError(f"no {what}")
         return make(value)
 
-    return Form(read)
+    return read
 
 
-def whole(most: int, least: int = 0) -> Form:
-    """Returns the form of whole numbers within limits."""
+def whole(most: int, least: int = 0) -> Read:
+    """Returns how whole numbers within limits are read."""
     return checked(lambda value: type(value) is int and least <= value <= most, f"whole number from {least} to {most}")
 
 
-def hexadecimal(digits: int) -> Form:
-    """Returns the form of numbers as hexadecimal texts."""
-    form = checked(lambda value: type(value) is str and re.fullmatch(f"[0-9a-f]{{1,{digits}}}", value),
+def hexadecimal(digits: int) -> Read:
+    """Returns how numbers are read that are hexadecimal texts."""
+    return checked(lambda value: type(value) is str and re.fullmatch(f"[0-9a-f]{{1,{digits}}}", value),
                    f"hexadecimal number of {digits} digits", lambda text: int(text, 16))
-    return form._replace(write=lambda value: format(value, "x"))
 
 
-def maybe(form: Form) -> Form:
-    """Returns the form of values that may be null."""
-    return Form(*(lambda value, do=do: None if value is None else do(value) for do in form))
+def maybe(read: Read) -> Read:
+    """Returns how values are read that may be null."""
+    return lambda value: None if value is None else read(value)
 
 
-def list_of(form: Form) -> Form:
-    """Returns the form of lists with values of a form."""
-    return Form(lambda value: [form.read(each) for each in LIST.read(value)], lambda value: [form.write(each) for each in value])
+def list_of(read: Read) -> Read:
+    """Returns how lists are read, given how their values are."""
+    return checked(lambda value: type(value) is list, "list", lambda value: [read(each) for each in value])
 
 
-def row(make: Callable[..., Any], *forms: Form) -> Form:
-    """Returns the form of lists with a value of each form."""
-    values = checked(lambda value: type(value) is list and len(value) == len(forms), f"list of {len(forms)} values")
-    return Form(lambda value: make(*(form.read(each) for form, each in zip(forms, values.read(value)))),
-                lambda value: [form.write(each) for form, each in zip(forms, value)])
+def row(make: Callable[..., Any], *reads: Read) -> Read:
+    """Returns how lists are read that have a value for each of these."""
+    return checked(lambda value: type(value) is list and len(value) == len(reads), f"list of {len(reads)} values",
+                   lambda value: make(*(read(each) for read, each in zip(reads, value))))
 
 
-def table_of(form: Form, make: Callable[[Any], Any] = dict) -> Form:
-    """Returns the form of objects of any names."""
-    return Form(lambda value: make({TEXT.read(name): form.read(each) for name, each in OBJECT.read(value).items()}))
+def table_of(name: Read, read: Read, make: Read = dict) -> Read:
+    """Returns how objects of any names are read."""
+    return lambda value: make({name(key): read(each) for key, each in OBJECT(value).items()})
 
 
-def forms_of(kind: type, **others: Form) -> dict[str, Form]:
-    """Returns the forms of a dataclass's fields: by their types, if they aren't given."""
+def record(make: Callable[..., Any], kind: type, **others: Read) -> Read:
+    """Returns how objects are read that have fields of a dataclass; `others`: those that aren't read by their type."""
+    reads = reads_of(kind, **others)
+    return lambda value: made(make, {name: read_field(name, each, reads) for name, each in OBJECT(value).items()})
+
+
+def made(make: Callable[..., Any], values: dict[str, Any]) -> Any:
+    """Returns what is made of fields. ValueError where one is missing."""
+    try:
+        return make(**values)
+    except TypeError as error:
+        raise ValueError(f"a field is missing: {error}") from error
+
+
+def reads_of(kind: type, **others: Read) -> dict[str, Read]:
+    """Returns how the fields of a dataclass are read: by their types, if it isn't given."""
     return {each.name: others.get(each.name) or BY_TYPE[str(each.type)] for each in fields(kind)}
 
 
-def record(make: Callable[..., Any], forms: Mapping[str, Form], needed: Iterable[str]) -> Form:
-    """Returns the form of objects with these fields, some of them needed."""
-
-    def read(value: Any) -> Any:
-        return make(**with_all({name: read_field(name, each, forms) for name, each in OBJECT.read(value).items()}, needed))
-
-    return Form(read, lambda value: {name: form.write(getattr(value, name)) for name, form in forms.items()})
-
-
-def with_all(values: dict[str, Any], needed: Iterable[str]) -> dict[str, Any]:
-    """Returns the fields of an object. ValueError where one that is needed is missing."""
-    for name in needed:
-        if name not in values:
-            raise ValueError(f"{name} is missing")
-    return values
-
-
-def read_field(name: str, value: Any, forms: Mapping[str, Form]) -> Any:
+def read_field(name: str, value: Any, reads: Mapping[str, Read]) -> Any:
     """Returns a field of an object. ValueError where it is spoilt, or isn't one of these."""
-    if name not in forms:
+    if name not in reads:
         raise ValueError(f"there is no field {name[:40]!r}")
     try:
-        return forms[name].read(value)
+        return reads[name](value)
     except ValueError as error:
         raise ValueError(f"{name}: {error}") from error
 
@@ -120,75 +111,52 @@ def page_of(**values: Any) -> Folio:
     return folio
 
 
-def snapshot_of(**values: Any) -> Snapshot:
-    """Returns a snapshot of these values. ValueError where it has a page twice."""
-    snapshot = Snapshot(**values)
-    if len({folio.frame for folio in snapshot.folios}) < len(snapshot.folios):
-        raise ValueError("two huge pages have the same frame")
-    return snapshot
-
-
-def runs_of(numbers: Iterable[int]) -> list[list[int]]:
-    """Returns runs of equal numbers: how often, and which."""
-    return [[len(list(run)), number] for number, run in groupby(numbers)]
-
-
-LIST, OBJECT = checked(lambda value: type(value) is list, "list"), checked(lambda value: type(value) is dict, "object")
+OBJECT = checked(lambda value: type(value) is dict, "object")
 NUMBER = checked(lambda text: re.fullmatch("[0-9]{1,20}", text), "number as a name", int)
 COUNT, FLAG, SET = whole((1 << 64) - 1), checked(lambda value: type(value) is bool, "truth value"), hexadecimal(128)
 TEXT = checked(lambda value: type(value) is str and re.fullmatch(f"[ -~]{{0,{MOST_TEXT}}}", value), "text of one line in printable ASCII")
 SECONDS = checked(lambda value: type(value) in (int, float) and abs(value) < 1e9, "number of seconds", float)
 RUNS = list_of(row(lambda count, number: (number,) * count, whole(1 << PMD_ORDER, 1), whole(MOST_MAPPED)))
-SHORT = checked(lambda value: type(value) is list and len(value) <= 1 << PMD_ORDER, "list of at most as many runs as subpages", RUNS.read)
-BY_TYPE: dict[str, Form] = {
+TOTALS = checked(lambda value: type(value) is list and len(value) <= 1 << PMD_ORDER, "list of at most as many runs as subpages",
+                 lambda value: compact_counts(list(chain.from_iterable(RUNS(value)))))
+BY_TYPE: dict[str, Read] = {
     "int": COUNT, "int | None": maybe(COUNT), "bool": FLAG, "bool | None": maybe(FLAG), "str": TEXT, "float": SECONDS,
-    "dict[str, float]": table_of(SECONDS),
-    "Counter[str]": table_of(COUNT, Counter),
-    "dict[int, str]": table_of(TEXT, lambda value: {NUMBER.read(name): text for name, text in value.items()}),
-    "Sequence[int]": Form(lambda value: compact_counts(list(chain.from_iterable(SHORT.read(value)))), runs_of),
+    "dict[str, float]": table_of(TEXT, SECONDS),
+    "Counter[str]": table_of(TEXT, COUNT, Counter),
+    "dict[int, str]": table_of(NUMBER, TEXT),
+    "Sequence[int]": TOTALS,
     "list[Mapping]": list_of(row(PageMapping, whole(1 << 31, 1), hexadecimal(16), SET, FLAG)),
 }
-PAGE = record(page_of, forms_of(
-    Folio, frame=whole(1 << 52), order=whole(PMD_ORDER, 2), zero=SET, known=SET, kept=SET,
+PAGE = record(
+    page_of, Folio, frame=whole(1 << 52), order=whole(PMD_ORDER, 2), zero=SET, known=SET, kept=SET,
     pins=maybe(whole(MOST_MAPPED, -MOST_MAPPED)),  # references dropped between two reads make it negative
-), ("frame", "order", "totals"))
-SUMS = forms_of(Sums)
-FIELDS = forms_of(
-    Snapshot, folios=list_of(PAGE), sums=record(Sums, SUMS, SUMS), today=maybe(whole((1 << PMD_ORDER) - 1)),
+)
+FIELDS = reads_of(
+    Snapshot, folios=list_of(PAGE), sums=record(Sums, Sums), today=maybe(whole((1 << PMD_ORDER) - 1)),
     changed_pages=list_of(row(lambda *pair: pair, maybe(PAGE), maybe(PAGE))),
 )
-NEEDED = ("processes", "left_out", "sums", "folios")
-SNAPSHOT = record(snapshot_of, FIELDS, NEEDED)
 
 
-def to_json(snapshot: Snapshot) -> dict[str, Any]:
-    """Returns a snapshot as a JSON object."""
-    return {**SNAPSHOT.write(snapshot), "version": VERSION}
-
-
-def from_json(value: Any) -> Snapshot:
-    """Returns the snapshot of a JSON object. ValueError where it is spoilt."""
-    return cast(Snapshot, SNAPSHOT.read(without_version(value)))
-
-
-def without_version(value: Any) -> dict[str, Any]:
-    """Returns the fields of a stored snapshot. ValueError where they aren't those of this version."""
-    version = OBJECT.read(value).pop("version", None)
-    if type(version) is not int or version != VERSION:
-        raise ValueError(f"it has another version than {VERSION}")
-    return cast("dict[str, Any]", value)
+def object_of(value: Any) -> dict[str, Any]:
+    """Returns a huge page, or sums, as a JSON object."""
+    out = dict(vars(value))
+    if isinstance(value, Folio):
+        out.update({name: format(out[name], "x") for name in ("zero", "known", "kept")})
+        out["totals"] = [[len(list(run)), number] for number, run in groupby(value.totals)]
+        out["mappings"] = [[process, f"{address:x}", f"{subset:x}", by_pmd] for process, address, subset, by_pmd in value.mappings]
+    return out
 
 
 def json_parts(snapshot: Snapshot) -> Iterator[str]:
     """Yields the JSON text of a snapshot in lines. The first one has all but the sections."""
-    plain = {name: form.write(getattr(snapshot, name)) for name, form in FIELDS.items() if name not in SECTIONS}
-    yield json.dumps({**plain, "version": VERSION})[:-1] + "\n"
+    rest = {name: value for name, value in vars(snapshot).items() if name not in SECTIONS}
+    yield json.dumps({**rest, "version": VERSION}, default=object_of)[:-1] + "\n"
     for name, brackets in SECTIONS.items():
         yield f',"{name}": {brackets[0]}\n'
         values = getattr(snapshot, name)
         for left, each in zip(reversed(range(len(values))), values):
-            entry = FIELDS[name].write({each: values[each]} if brackets == "{}" else [each])
-            yield json.dumps(entry)[1:-1] + (",\n" if left else "\n")
+            entry = json.dumps({each: values[each]} if brackets == "{}" else [each], default=object_of)
+            yield entry[1:-1] + (",\n" if left else "\n")
         yield f"{brackets[1]}\n"
     yield "}\n"
 
@@ -223,7 +191,10 @@ class StoredReader:
         """Returns the snapshot of a file, or of standard input (`-`). InputFault where it isn't one, or takes too much memory."""
         file, self._line = open_input(path), 0
         try:
-            return snapshot_of(**with_all(self._fields(file), NEEDED))
+            snapshot: Snapshot = made(Snapshot, self._fields(file))
+            if len({folio.frame for folio in snapshot.folios}) < len(snapshot.folios):
+                raise ValueError("two huge pages have the same frame")
+            return snapshot
         except (ValueError, OSError) as error:
             where = f"line {self._line}: " if self._line else ""
             raise InputFault(f"{escape(path)}: this is no stored snapshot: {where}{error}") from error
@@ -240,16 +211,19 @@ class StoredReader:
 
     def _fields(self, file: IO[bytes]) -> dict[str, Any]:
         """Returns the fields of a snapshot, each checked."""
-        values = without_version(value_of(self._next(file) + "}"))
-        fields = {name: read_field(name, value, FIELDS) for name, value in values.items()}
+        values = OBJECT(value_of(self._next(file) + "}"))
+        version = values.pop("version", None)
+        if type(version) is not int or version != VERSION:
+            raise ValueError(f"it has another version than {VERSION}")
+        found = {name: read_field(name, value, FIELDS) for name, value in values.items()}
         while (line := self._next(file)) != "}":
-            found = re.fullmatch(r',"([a-z_]{1,40})": (\[|{)', line)
-            if not found or SECTIONS.get(found[1], "")[:1] != found[2] or found[1] in fields:
+            head = re.fullmatch(r',"([a-z_]{1,40})": (\[|{)', line)
+            if not head or SECTIONS.get(head[1], "")[:1] != head[2] or head[1] in found:
                 raise ValueError("no section of a snapshot begins here")
-            fields[found[1]] = self._section(file, found[1])
+            found[head[1]] = self._section(file, head[1])
         if file.read(1):
             raise ValueError("there is more after its end")
-        return fields
+        return found
 
     def _section(self, file: IO[bytes], name: str) -> Any:
         """Returns an object or a list, an entry a line."""
