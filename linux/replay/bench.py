@@ -4,6 +4,7 @@ from __future__ import annotations
 
 import argparse
 import os
+import re
 import resource
 from collections.abc import Iterator
 from contextlib import closing, contextmanager
@@ -59,12 +60,17 @@ class Server:
 
 
 class Bench:
-    """Made once; prepared for each script. `shrinker`: the file by which exactly so many pages are scanned, if that is asked."""
+    """Made once; prepared for each script. `parts`: what the machine has; `program`: the one to compare with; `memory`: None where
+    queues aren't read; `shrinker`: the file by which exactly so many pages are scanned, if that is asked."""
 
-    def __init__(self, keeper: Keeper, memory: KernelMemory | None, shrinker: ShrinkerFile | None) -> None:
+    def __init__(
+        self, keeper: Keeper, parts: list[machine.Part], program: Program, memory: KernelMemory | None, shrinker: ShrinkerFile | None
+    ) -> None:
         _, most = resource.getrlimit(resource.RLIMIT_NOFILE)
         resource.setrlimit(resource.RLIMIT_NOFILE, (most, most))  # each mapping process needs three
-        self._keeper, self.memory, self.shrinker = keeper, memory, shrinker
+        self._keeper, self.parts, self.program, self.memory, self.shrinker = keeper, parts, program, memory, shrinker
+        # letter P; mm/memory.c: zap_present_folio_ptes came with Linux 6.9
+        self.unmaps_singly = [int(number) for number in re.findall("[0-9]+", os.uname().release)[:2]] < [6, 9]
         keeper.set(COLLAPSE_SLEEP, QUIET)
         self.frames = Frames()
         self.groups = Groups(keeper, "thpreplay")
@@ -121,19 +127,9 @@ class Bench:
         self.frames.close()
 
 
-@dataclass(frozen=True)
-class Session:
-    """A bench on this kernel, and the program to compare with."""
-
-    parts: list[machine.Part]
-    program: Program
-    bench: Bench
-
-
 @contextmanager
-def open_session(name: str, options: argparse.Namespace, scans_exactly: bool = False) -> Iterator[Session]:
-    """Opens a session of a tool with options (options.py: add_common). Unavailable where the machine lacks what it needs; Busy
-    where another tool runs."""
+def open_bench(name: str, options: argparse.Namespace) -> Iterator[Bench]:
+    """Opens the bench of a tool (options.py). Unavailable where the machine lacks what it needs; Busy where another tool runs."""
     parts, memory = machine.common_parts(), None
     if options.no_memory:
         parts.append(machine.Part("kernel memory", False, "not wanted (--no-memory)"))
@@ -142,10 +138,10 @@ def open_session(name: str, options: argparse.Namespace, scans_exactly: bool = F
         memory = memory if all(part.here for part in more) else None
         parts += more
     machine.demand(parts, NEEDED)
-    shrinker = ShrinkerFile(find_hierarchy().version) if scans_exactly else None
+    shrinker = ShrinkerFile(find_hierarchy().version) if options.exact_scans else None
     if shrinker and not memory:
         raise Unavailable("exact scans need queues, which are in kernel memory")
     program = Program(options.program)
     with Keeper(name, options.wait) as keeper:
-        with closing(Bench(keeper, memory, shrinker)) as bench:
-            yield Session(parts, program, bench)
+        with closing(Bench(keeper, parts, program, memory, shrinker)) as bench:
+            yield bench

@@ -35,21 +35,7 @@ class Difference(Exception):
 
 
 class CounterDifference(Difference):
-    """Only counters of the whole machine differ; `place` names the counter and the command."""
-
-    def __init__(self, text: str, place: str, kind: str = "", command: int = 0) -> None:
-        super().__init__(text, kind, command)
-        self.place = place
-
-
-def kind_of(what: str, word: str) -> str:
-    """Returns what differs, without lists and numbers, and after which command."""
-    return f"{_NUMBERS.sub('N', what)} after {word}"
-
-
-def require_equal(what: str, kernel: object, model: object) -> None:
-    if kernel != model:
-        raise Difference(f"{what}, kernel {kernel}, thpsplit {model}", what)
+    """Only counters of the whole machine differ."""
 
 
 class Comparison:
@@ -75,12 +61,33 @@ class Comparison:
         """The command that is compared, as reports name it."""
         return f"command {self.command.place}: {' '.join(self.command.words)}" if self.command else "before all"
 
-    def placed(self, difference: Difference) -> Difference:
+    def difference(self, text: str, what: str) -> Difference:
         """Returns a difference with its place, and with the difference of a counter before it."""
         earlier = f"; before it {self.counters}" if self.counters else ""
         word, place = (self.command.words[0], self.command.place) if self.command else ("", 0)
-        kind = kind_of(difference.kind or str(difference), word)
-        return Difference(f"{difference} ({self.where}){earlier}", kind, place)
+        return Difference(f"{text} ({self.where}){earlier}", f"{_NUMBERS.sub('N', what)} after {word}", place)
+
+    def _require_equal(self, what: str, kernel: object, model: object) -> None:
+        if kernel != model:
+            raise self.difference(f"{what}, kernel {kernel}, thpsplit {model}", what)
+
+    def _counter_differs(self, what: str, kernel: object, model: object) -> None:
+        """Keeps the first difference of a counter that the kernel has; no other is compared afterwards."""
+        if not self.counters and kernel is not None and kernel != model:
+            found = self.difference(f"{what}, kernel {kernel}, thpsplit {model}", what)
+            self.counters = CounterDifference(str(found), found.kind, found.command)
+
+    def compare(self, observed: Observation) -> None:
+        """Raises Difference where the script's own state differs. A counter that differs is kept in `counters`."""
+        if self.command:
+            self._update(self.command, observed)
+        self._note_known()
+        self._compare_counters(observed.counts)
+        for node, state in enumerate(self._states):
+            for number, page in enumerate(state.pages):
+                if page.live:
+                    self._compare_page(node, number, page, observed.pages[node, number])
+            self._compare_queue(node, state, observed.queues[node])
 
     def _update(self, expected: ExpectedAnswer, observed: Observation) -> None:
         """Computes the kernel's queue and failed splits. The node's state is that after the command."""
@@ -99,7 +106,7 @@ class Comparison:
         stay = [event.page for event in expected.events if event.word == "back"]
         in_order = [page for page in taken if page in stay]
         if stay != in_order:  # E: the kernel's order is the other way round, the program's is that of taking
-            require_equal(f"order of putting back {in_order}, which the kernel turns around at each pass (E)", "so", stay)
+            self._require_equal(f"order of putting back {in_order}, which the kernel turns around at each pass (E)", "so", stay)
         queue = [page for page in self._queues[expected.node] if page in stay]
         rest = [page for page in self._queues[expected.node] if page not in taken]
         if rest:
@@ -144,24 +151,6 @@ class Comparison:
         if not fits:
             self._counter_differs("split_failed of a scan", failed + once, wanted)
         return failed if fits else fewest
-
-    def _counter_differs(self, what: str, kernel: object, model: object) -> None:
-        """Keeps the first difference of a counter that the kernel has; no other is compared afterwards."""
-        if not self.counters and kernel is not None and kernel != model:
-            found = self.placed(Difference(f"{what}, kernel {kernel}, thpsplit {model}", what))
-            self.counters = CounterDifference(str(found), f"{what} {self.where}", found.kind, found.command)
-
-    def compare(self, observed: Observation) -> None:
-        """Raises Difference where the script's own state differs. A counter that differs is kept in `counters`."""
-        if self.command:
-            self._update(self.command, observed)
-        self._note_known()
-        self._compare_counters(observed.counts)
-        for node, state in enumerate(self._states):
-            for number, page in enumerate(state.pages):
-                if page.live:
-                    self._compare_page(node, number, page, observed.pages[node, number])
-            self._compare_queue(node, state, observed.queues[node])
 
     def _sum(self, name: str, order: int | None = None) -> int:
         return sum(getattr(state.event_counts, name) for state in self._states if order in (None, state.order))
@@ -209,12 +198,12 @@ class Comparison:
             held, compared = page.held & ~page.dropped_zero, observed.mapped
             if held != page.held:
                 self.known.add(KnownDifference.C if node in self._small else KnownDifference.B)
-            require_equal(f"frames of {name}", set_text(observed.mapped), set_text(held))
+            self._require_equal(f"frames of {name}", set_text(observed.mapped), set_text(held))
         else:
-            require_equal(f"frames of {name}", observed.whole, len(page.own))
+            self._require_equal(f"frames of {name}", observed.whole, len(page.own))
         for i, (count, wanted) in enumerate(zip(observed.counts, page.totals())):
             if count != wanted and compared >> i & 1:
-                require_equal(f"map count of {name}, subpage {i}", count, wanted)
+                self._require_equal(f"map count of {name}, subpage {i}", count, wanted)
 
     def _compare_queue(self, node: int, state: NodeState, queue: list[int] | None) -> None:
         if queue is None:
@@ -222,9 +211,10 @@ class Comparison:
         numa_nodes = self._numa_nodes[node]
         expected_queue = join_lists(lists_of(self._queues[node], numa_nodes))
         shown = [page if page >= 0 else f"frame {-page:#x}" for page in queue]
-        require_equal(f"queue of node {node}", shown, expected_queue)
+        self._require_equal(f"queue of node {node}", shown, expected_queue)
         self.sums["queues compared"] += 1
-        self.sums["queues compared, of two pages or more"] += len(expected_queue) > 1
+        for least in (2, 20):
+            self.sums[f"queues compared, of {least} pages or more"] += len(expected_queue) >= least
         self.sums["queues compared, of several NUMA nodes"] += len(lists_of(expected_queue, numa_nodes)) > 1
         if expected_queue != join_lists(lists_of(state.queue, numa_nodes)):
             self.known.add(KnownDifference.E)

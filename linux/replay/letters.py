@@ -25,8 +25,8 @@ from ..common.files import PMD_ORDER
 from ..common.script import Script, read_script
 from ..common.subpages import set_text
 from ..common.text import escape, text_lines
-from .bench import Session
-from .runner import Result, RunComparer, Runner
+from .bench import Bench
+from .runner import Result, Runner
 from .states import Observation
 
 FOLDER = Path(__file__).resolve().parent.parent / "letters"
@@ -65,8 +65,8 @@ class Finding:
 
     def cell(self) -> str:
         """Returns the cell of a table."""
-        return {Match.MODEL: "model", Match.LETTER: "letter", Match.NEITHER: escape(self.text).replace("|", "/"),
-                Match.UNSEEN: "unseen"}[self.match]
+        return {Match.MODEL: "model", Match.LETTER: "letter", Match.UNSEEN: "unseen"}.get(
+            self.match, escape(self.text).replace("|", "/"))
 
 
 @dataclass(frozen=True)
@@ -89,34 +89,27 @@ class LetterScript:
         return Finding(self.letter, Match.NEITHER, f"{self.look} {seen or 'empty'}")
 
 
-def read_letter(letter: str) -> LetterScript:
-    """Reads a letter's script. InputFault where there is none, or its comments are missing."""
-    if not re.fullmatch("[A-Z]", letter):
-        raise InputFault(f"{escape(letter)[:40]} is no letter of a known difference")
-    if letter in ONLY_RECORDINGS:
-        raise InputFault(f"{letter}: only recordings meet it")
-    path = FOLDER / f"{letter}.script"
-    script = read_script(str(path))
-    comments = dict(re.findall("^# (look|model|letter): (.*)$", script.text, re.MULTILINE))
-    if len(comments) != 3:
-        raise InputFault(f"{path} needs the comments look, model and letter")
-    return LetterScript(letter, script, comments["look"], comments["model"], comments["letter"])
-
-
-def letters() -> list[str]:
-    """Returns the letters that have a script."""
-    return sorted(path.stem for path in FOLDER.glob("[A-Z].script"))
+def read_letters() -> list[LetterScript]:
+    """Reads the scripts of linux/letters. InputFault where one lacks its comments."""
+    out = []
+    for path in sorted(FOLDER.glob("[A-Z].script")):
+        script = read_script(str(path))
+        comments = dict(re.findall("^# (look|model|letter): (.*)$", script.text, re.MULTILINE))
+        if len(comments) != 3:
+            raise InputFault(f"{path} needs the comments look, model and letter")
+        out.append(LetterScript(path.stem, script, comments["look"], comments["model"], comments["letter"]))
+    return out
 
 
 def read_look(look: str, observed: Observation) -> str:
     """Returns what a look shows. Unavailable where this kernel doesn't show it."""
     size, frames, queue = _SIZE.fullmatch(look), _FRAMES.fullmatch(look), _QUEUE.fullmatch(look)
+    if frames:
+        return set_text(observed.pages[int(frames[1]), int(frames[2])].mapped)
+    if queue:
+        return _read_queue(observed.queues[int(queue[1])], observed)
     if size:
         value = observed.counts.sizes.get((SizeCounter(size[1]), int(size[2])))
-    elif frames:
-        return set_text(observed.pages[int(frames[1]), int(frames[2])].mapped)
-    elif queue:
-        return _read_queue(observed.queues[int(queue[1])], observed)
     elif look in [counter.value for counter in Counter]:
         value = observed.counts.machine[Counter(look)]
     else:
@@ -142,13 +135,13 @@ Look = Callable[[Script], Observation]
 """Runs a script, and returns what the kernel shows after it. Unavailable where the kernel can't run it."""
 
 
-def look_on(session: Session) -> Look:
-    """Returns the look at the kernel of a session."""
+def look_on(bench: Bench) -> Look:
+    """Returns the look at the running kernel."""
     looks: list[Observation] = []
-    runner = Runner(session.bench, session.program, RunComparer(looks=looks, compares=False))
+    runner = Runner(bench, looks=looks, compares=False)
 
     def look(script: Script) -> Observation:
-        session.bench.renew()
+        bench.renew()
         outcome = runner.run(script)
         if outcome.result is not Result.AGREES:
             raise Unavailable(outcome.text or "the script was not run")
@@ -178,7 +171,7 @@ def find_letter(letter: LetterScript, look: Look) -> Finding:
 
 def find_all(look: Look) -> list[Finding]:
     """Returns how a kernel does each letter, those of recordings last."""
-    found = [find_letter(read_letter(letter), look) for letter in letters()]
+    found = [find_letter(letter, look) for letter in read_letters()]
     return [*found, *(Finding(letter, Match.UNSEEN, "only recordings meet it") for letter in ONLY_RECORDINGS)]
 
 

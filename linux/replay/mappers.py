@@ -20,7 +20,7 @@ from ..common.keeper import Keeper, process_of
 from ..common.page_files import NumberFile, frame_of_entry
 
 PATIENCE = 20.0  # seconds until a reply
-WORDS = ("fork", "enter", "alloc", "unmap", "splitpmd", "fill", "pin", "unpin", "exit")  # mapper.c has the same order
+WORDS = ("fork", "enter", "alloc", "unmap", "splitpmd", "fill", "pin", "unpin")  # mapper.c has the same order
 COMMAND, REPLY = struct.Struct("<4i"), struct.Struct("<q")
 
 
@@ -28,11 +28,11 @@ class Refusal(RunFailed):
     """A mapping process could not do a command; the text is the command and the kernel's reason."""
 
 
-def has_ended(pidfd: int) -> bool:
-    """Returns whether the process that a pidfd refers to has ended."""
+def has_ended(pidfd: int, seconds: float = 0.0) -> bool:
+    """Returns whether the process that a pidfd refers to has ended, or does so within a time; its mappings and pins are gone then."""
     poll = select.poll()
     poll.register(pidfd, select.POLLIN)
-    return bool(poll.poll(0))
+    return bool(poll.poll(1000 * seconds))
 
 
 def socket_pair() -> tuple[socket.socket, socket.socket]:
@@ -80,10 +80,11 @@ class Mapper:
 
     def alloc(self, order: int, fill: int) -> None:
         """Allocates a page and fills it with a byte, unless that is 0."""
-        at = self.request("alloc", order, fill)
-        if not at or at % (BASE << order):
-            raise RunFailed(f"a mapping process maps a page at an address that isn't aligned: {at:#x}")
-        self.at = at
+        self.at = self.request("alloc", order)
+        if not self.at or self.at % (BASE << order):
+            raise RunFailed(f"a mapping process maps a page at an address that isn't aligned: {self.at:#x}")
+        if fill:
+            self.request("fill", 0, 1 << order, fill)
 
     def fork(self) -> Mapper:
         """Makes a child that maps what this one maps, and has none of its pins."""
@@ -119,12 +120,15 @@ class Mapper:
             raise RunFailed(f"a mapping process has ended: {error}") from error
 
     def exit(self) -> None:
-        """Has the process drop its mappings and end. One that failed before ends without a reply."""
-        try:
-            if self._end:
-                self.request("exit")
-        finally:
-            self.close()
+        """Ends the process, and waits until its mappings are gone. One that failed before ends by itself."""
+        pidfd = os.dup(self.pidfd) if self.pidfd >= 0 else -1
+        self.close()
+        if pidfd >= 0:
+            try:
+                if not has_ended(pidfd, PATIENCE):
+                    raise RunFailed(f"a mapping process doesn't end within {PATIENCE:.0f} s")
+            finally:
+                os.close(pidfd)
 
     def close(self) -> None:
         """Closes the tool's descriptors of the process, which ends it."""
@@ -141,12 +145,10 @@ class Mappers:
     """All of them: forks of one root process, which maps nothing."""
 
     def __init__(self, keeper: Keeper) -> None:
-        path = helper("mapper")
-        empty: dict[str, str] = {}
         mine, its = socket_pair()
         with its:
-            self._process = subprocess.Popen([path], stdin=its.fileno(), stdout=subprocess.DEVNULL,
-                                             stderr=subprocess.DEVNULL, cwd="/", env=empty, start_new_session=True)
+            self._process = subprocess.Popen([helper("mapper")], stdin=its.fileno(), stdout=subprocess.DEVNULL,
+                                             stderr=subprocess.DEVNULL, cwd="/", env={}, start_new_session=True)
         keeper.own(self._process.pid)
         self.root = Mapper(mine, os.pidfd_open(self._process.pid))
 

@@ -5,8 +5,8 @@ Prints a line for each script: `agrees`, `agrees (but for A F)`, `differs: WHAT,
 machine differ, and other programs move them. A script that differs is made small by further runs.
 
 Status 0: nothing differs; 1: something does; 2: an error in the words or files; 3: the run can't continue; 4: nothing
-differs, but something is inconclusive; 75: another tool runs; 77: nothing could be compared. With --tap those of
-kselftest: 0 pass, 1 fail or error, 4 skip. With --fingerprint 1: this kernel does something as neither side.
+differs, but something is inconclusive; 75: another tool runs; 77: nothing could be compared. With --fingerprint 1: this
+kernel does something as neither side.
 """
 
 from __future__ import annotations
@@ -45,17 +45,12 @@ def add_shape(parser: argparse.ArgumentParser) -> None:
                         help="most commands of a random script, at least 8")
 
 
-def add_common(parser: argparse.ArgumentParser) -> None:
-    """Adds the options that thpreplay and thpbisect share."""
-    parser.add_argument("--program", metavar="PATH", help="the thpsplit to compare with")
-    parser.add_argument("--no-memory", action="store_true", help="leave kernel memory, and so the queues, unread")
-    parser.add_argument("--wait", action="store_true", help="wait until another tool has ended")
-
-
 def parse_words(given: Sequence[str] | None = None) -> argparse.Namespace:
     """Returns the options of a command line, by default this process's own."""
     parser = tool_parser(NAME, __doc__)
-    add_common(parser)
+    parser.add_argument("--program", metavar="PATH", help="the thpsplit to compare with")
+    parser.add_argument("--no-memory", action="store_true", help="leave kernel memory, and so the queues, unread")
+    parser.add_argument("--wait", action="store_true", help="wait until another tool has ended")
     parser.add_argument("script", nargs="*",
                         help="scripts (-: standard input); their settings are in the first line or in SCRIPT.args")
     for name in SETTINGS:
@@ -77,9 +72,7 @@ def parse_words(given: Sequence[str] | None = None) -> argparse.Namespace:
     parser.add_argument("--fingerprint", action="store_true",
                         help="print how this kernel does each known difference, by the scripts of linux/letters")
     parser.add_argument("--markdown", action="store_true", help="the fingerprint as a table")
-    form_of_output = parser.add_mutually_exclusive_group()
-    form_of_output.add_argument("--tap", action="store_true", help="print KTAP version 1; statuses as kselftest has them")
-    form_of_output.add_argument("--json", action="store_true", help="print JSON, a document a line")
+    parser.add_argument("--json", action="store_true", help="print JSON, a document a line")
     parser.add_argument("--undo", action="store_true", help="put back what a killed run left; nothing is run")
     parser.add_argument("-v", "--verbose", action="store_true", help="print each command")
     parser.add_argument("-q", "--quiet", action="store_true",
@@ -90,7 +83,7 @@ def parse_words(given: Sequence[str] | None = None) -> argparse.Namespace:
 def parse_shape(options: argparse.Namespace) -> Shape:
     """Returns what random scripts are drawn from."""
     return Shape(options.node_counts, options.page_orders, options.thresholds, max(options.length, LEAST_LENGTH),
-                 getattr(options, "exact_scans", False))
+                 getattr(options, "exact_scans", False))  # a set of seeds has no such option
 
 
 def list_scripts(options: argparse.Namespace) -> tuple[int, Iterator[Script]]:

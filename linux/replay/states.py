@@ -32,6 +32,7 @@ class KnownDifference(enum.Enum):
     E = "puts pages back in reverse order, the newest tried first"
     F = "makes several passes in one reclaim, so pinned pages fail several times"
     G = "counts an underused page as deferred when its own split takes PTE mappings away"
+    P = "queues a page, and counts it as deferred, before the last of its PTE mappings goes"
     W = "has thp_split_page and its fellows for PMD size only; below, the statistics of the size"
 
 
@@ -144,6 +145,14 @@ class NodeState:
     pages: list[PageState] = field(default_factory=list)
     queue: list[int] = field(default_factory=list)
     event_counts: EventCounts = field(default_factory=EventCounts)
+
+    def empties_at_once(self, event: Event) -> bool:
+        """Returns whether an event removes all mappings, by PTEs, of a page that wasn't partly mapped."""
+        if event.word != "unmapsub" or event.page is None or event.page >= len(self.pages):
+            return False
+        page = self.pages[event.page]
+        is_mapped_once = not page.whole and {*page.own} == {1}
+        return is_mapped_once and event.count == len(page.own) and not page.partly and not page.split
 
     def apply(self, event: Event) -> None:
         """Applies one event of the journal. InputFault where it can't have happened here."""

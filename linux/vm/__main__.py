@@ -7,10 +7,10 @@ import sys
 import time
 from typing import NoReturn
 
-from ..common.errors import RunFailed, Unavailable
+from ..common.errors import DIFFERS, RunFailed, Unavailable
 from ..common.tool import run_tool
 from .guest_files import Archive, GuestFiles
-from .guest_run import GuestRun, KvmFailed
+from .guest_run import GuestRun, KvmFailed, lines_of_console
 from .kernels import find_kernel
 from .options import NAME, parse_words
 from .virtual_machine import VirtualMachine, find_qemu, memory_file
@@ -29,14 +29,14 @@ def run_guest(machine: VirtualMachine, name: str, options: argparse.Namespace) -
     try:
         status = run.run()
     except RunFailed:
-        for line in run.console.lines():
+        for line in lines_of_console(run.console):
             report(f"console: {line}")
         raise
     finally:
         machine.end()
     if options.verbose:
         report(f"{run.release}: booted in {run.booted:.1f} s, ended after {time.monotonic() - began:.1f} s")
-    return status
+    return UNDECIDED if options.bisect and status > DIFFERS else status
 
 
 def run_command() -> int:

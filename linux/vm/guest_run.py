@@ -55,26 +55,16 @@ class MessageReader:
             yield letter, content
 
 
-class Console:
-    """The end of a guest's console."""
+def lines_of_console(console: bytes) -> list[str]:
+    """Returns the last lines of a console, printable; of a kernel that panicked those up to the panic, since a trace follows."""
+    lines = [escape(line)[:SHOWN_WIDTH] for line in re.split(rb"[\r\n]+", console) if line.strip()]
+    panics = [place for place, line in enumerate(lines) if PANIC in line]
+    return lines[: panics[-1] + 1 if panics else len(lines)][-SHOWN_LINES:]
 
-    def __init__(self) -> None:
-        self._kept = b""
 
-    def add(self, data: bytes) -> None:
-        """Adds bytes, and forgets the oldest."""
-        self._kept = (self._kept + data)[-KEPT_CONSOLE:]
-
-    def lines(self) -> list[str]:
-        """Returns the last lines, printable; of a kernel that panicked those up to the panic, since a trace follows."""
-        lines = [escape(line)[:SHOWN_WIDTH] for line in re.split(rb"[\r\n]+", self._kept) if line.strip()]
-        panics = [place for place, line in enumerate(lines) if PANIC in line]
-        return lines[: panics[-1] + 1 if panics else len(lines)][-SHOWN_LINES:]
-
-    def find_panic(self) -> str:
-        """Returns the line in which the kernel reports its end, or nothing."""
-        found = re.findall(PANIC.encode() + rb"[^\r\n]*", self._kept)
-        return escape(found[-1])[:SHOWN_WIDTH] if found else ""
+def find_panic(console: bytes) -> str:
+    """Returns the line in which the kernel reports its end, or nothing."""
+    return next((line[line.index(PANIC):] for line in reversed(lines_of_console(console)) if PANIC in line), "")
 
 
 class KvmFailed(Exception):
@@ -87,7 +77,7 @@ class GuestRun:
 
     def __init__(self, machine: VirtualMachine, name: str, limits: argparse.Namespace) -> None:
         self._machine, self._name, self._limits = machine, name, limits
-        self.console, self._messages, self._problems = Console(), MessageReader(), b""
+        self.console, self._messages, self._problems = b"", MessageReader(), b""  # the ends of the console and of qemu's messages
         self._began = self._heard = time.monotonic()
         self.release, self.booted = "", 0.0
         self._status: int | None = None
@@ -96,7 +86,7 @@ class GuestRun:
         """Returns the command's status. KvmFailed, Unavailable where the kernel lacks something, RunFailed where it doesn't
         boot or hangs."""
         sources: dict[int, Callable[[bytes], None]] = {
-            self._machine.console.fileno(): self.console.add,
+            self._machine.console.fileno(): self._hear_console,
             self._machine.line.fileno(): self._hear,
             self._machine.problems: self._hear_qemu,
         }
@@ -120,6 +110,9 @@ class GuestRun:
             else:
                 del sources[descriptor]
         return bool(ready)
+
+    def _hear_console(self, data: bytes) -> None:
+        self.console = (self.console + data)[-KEPT_CONSOLE:]
 
     def _hear(self, data: bytes) -> None:
         self._heard = time.monotonic()
@@ -152,11 +145,11 @@ class GuestRun:
             pass
         if self._status is None:
             words = escape(self._problems.strip().split(b"\n")[-1])[:200]
-            reason = self.console.find_panic() or words or f"qemu ended with status {status}"
+            reason = find_panic(self.console) or words or f"qemu ended with status {status}"
             raise RunFailed(f"{self._name} {'ended' if self.release else 'does not boot'}: {reason}")
 
     def _check_limits(self) -> None:
-        limits, now, panic = self._limits, time.monotonic(), self.console.find_panic()
+        limits, now, panic = self._limits, time.monotonic(), find_panic(self.console)
         if not self.release:
             if now - self._began > limits.boot_limit:
                 reason = panic or "it runs no first process"

@@ -115,10 +115,9 @@ def run(line: int) -> None:
 
 
 def main() -> NoReturn:
-    for kind, place in (("proc", "/proc"), ("sysfs", "/sys"), ("devtmpfs", "/dev"), ("tmpfs", "/dev/shm"), ("tmpfs", "/run"),
-                        ("tmpfs", "/tmp"), ("debugfs", "/sys/kernel/debug"), ("tracefs", "/sys/kernel/tracing")):
+    for kind, place in (("proc", "/proc"), ("sysfs", "/sys"), ("devtmpfs", "/dev"), ("tmpfs", "/dev/shm"),
+                        ("debugfs", "/sys/kernel/debug"), ("tracefs", "/sys/kernel/tracing")):
         mount(kind, place)
-    os.chmod("/run", 0o755)
     try:
         line = os.open(LINE, os.O_RDWR | os.O_NOCTTY)
         tty.setraw(line, termios.TCSANOW)  # bytes go as they are

@@ -7,7 +7,7 @@ installed here, and no rights are needed.
 
 Status: the command's own; 2: an error in the words or files; 3: the kernel doesn't boot, the guest hangs, or a limit of time
 has passed, with the end of the console; 77: this machine lacks qemu or the package, or the kernel what the guest needs. With
---bisect 125 for all of these.
+--bisect 125 for all of these, and for each status of the command except 0 and 1.
 """
 
 from __future__ import annotations
@@ -48,7 +48,7 @@ def parse_words(given: Sequence[str] | None = None) -> argparse.Namespace:
                         help="time for the command (0: none)")
     parser.add_argument("--silence", type=seconds(5, MOST_SECONDS), default=SILENCE, metavar="SECONDS",
                         help=f"time after which a guest without a sign hangs ({SILENCE:g})")
-    parser.add_argument("--bisect", action="store_true", help="every error of thpvm itself has status 125, for git bisect run")
+    parser.add_argument("--bisect", action="store_true", help="each status except 0 and 1 is 125, for git bisect run")
     parser.add_argument("-v", "--verbose", action="store_true", help="report the kernel's release and the times")
     words: list[str] = list(sys.argv[1:] if given is None else given)
     at = words.index("--") if "--" in words else len(words)
