@@ -17,7 +17,7 @@ from ..common.tool import run_tool
 from .bench import open_bench
 from .letters import Match, find_all, look_on, markdown
 from .options import NAME, list_scripts, parse_words
-from .reports import JsonReport, Report, RunHead, SumLine
+from .reports import JsonReport, Report, SumLine
 from .runner import Outcome, Result, Runner, print_line
 from .shrinking import Shrinker, SmallScript
 from .states import Observation
@@ -87,14 +87,14 @@ def run_all(options: argparse.Namespace) -> int:
     looks: list[Observation] = []
     with open_bench(NAME, options) as bench:
         sums = Sums(options)
-        report.begin(RunHead(bench.parts, bench.program.path, bench.memory is not None, count))
+        report.begin(bench, count)
         runner = Runner(bench, report.print_command if options.verbose else None, looks if options.store else None)
         quiet_runner = Runner(bench)
         shrinker = Shrinker(lambda script: quiet_runner.run(script, zeros), options.shrink)
         for script in scripts:
             outcome, small = runner.run(script, zeros), None
             try:
-                small = shrinker.shrink_first(script, outcome)
+                small = shrinker.shrink(script, outcome)
             finally:  # a signal, too, leaves the outcome reported
                 report.print_script(script, outcome, small)
                 sums.add(script, outcome, small, looks)

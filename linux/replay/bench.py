@@ -1,4 +1,4 @@
-"""What runs of scripts begin and end with: the machine, the lock, settings, a control group and a server process for each node."""
+"""What runs of scripts begin and end with: the lock, settings, a control group and a server process for each node."""
 
 from __future__ import annotations
 
@@ -29,9 +29,8 @@ QUIET = 3600000  # milliseconds between khugepaged's rounds: it collapses nothin
 
 
 class ShrinkerFile:
-    """The shrinker of deferred split queues by its file `scan` in debugfs (SHRINKER_DEBUG): it scans so many pages as it is asked
-    for, in one pass without a reclaim. Unavailable where the kernel has none, or control groups are of version 1, which it
-    doesn't find (Documentation/admin-guide/mm/shrinker_debugfs.rst and mm/shrinker_debug.c of the kernel)."""
+    """The file `scan` of the shrinker in debugfs (SHRINKER_DEBUG): it scans so many pages as it is asked for, in one pass without
+    a reclaim. It finds no control groups of version 1 (Documentation/admin-guide/mm/shrinker_debugfs.rst, mm/shrinker_debug.c)."""
 
     def __init__(self, version: int, folder: str = SHRINKERS) -> None:
         if version != 2:
@@ -51,17 +50,15 @@ class ShrinkerFile:
 
 @dataclass(frozen=True)
 class Server:
-    """A node on this kernel: its control group, the process whose forks allocate in it, the group's struct mem_cgroup (0:
-    kernel memory isn't read)."""
+    """A node on this kernel."""
 
-    path: str
-    process: Mapper
-    group: int
+    path: str  # of its control group
+    process: Mapper  # whose forks allocate in it
+    group: int  # the group's struct mem_cgroup; 0: kernel memory isn't read
 
 
 class Bench:
-    """Made once; prepared for each script. `parts`: what the machine has; `program`: the one to compare with; `memory`: None where
-    queues aren't read; `shrinker`: the file by which exactly so many pages are scanned, if that is asked."""
+    """Made once; prepared for each script. `memory`: None where queues aren't read; `shrinker`: None where scans are reclaims."""
 
     def __init__(
         self, keeper: Keeper, parts: list[machine.Part], program: Program, memory: KernelMemory | None, shrinker: ShrinkerFile | None
@@ -112,13 +109,11 @@ class Bench:
             self.servers.append(Server(path, process, self.memory.group(path) if self.memory else 0))
 
     def queues(self, node: int) -> dict[int, list[int]] | None:
-        """Returns the first frames of the pages in a node's queue, oldest first, by NUMA node where the kernel has a queue
-        for each; None where queues aren't read."""
-        memory = self.memory
-        if memory is None:
+        """Returns the first frames of the pages in a node's queue, oldest first, by NUMA node; None where queues aren't read."""
+        if self.memory is None:
             return None
-        found = memory.queues(self.servers[node].group)
-        return {numa: [memory.frame(folio) for folio in folios] for numa, folios in found.items()}
+        found = self.memory.queues(self.servers[node].group)
+        return {numa: [*map(self.memory.frame, folios)] for numa, folios in found.items()}
 
     def close(self) -> None:
         """Ends all processes."""

@@ -59,13 +59,12 @@ class ExpectedAnswer:
 
 @dataclass(frozen=True)
 class ExpectedRun:
-    """What the kernel should do: by commands, under these options; the known differences that the run includes; the
-    nodes whose pages aren't queued at their fault although the script's options ask for that."""
+    """What the kernel should do, by commands, under these options."""
 
     answers: list[ExpectedAnswer]
     options: Options
-    known: set[KnownDifference]
-    small: set[int]
+    known: set[KnownDifference]  # that the run includes
+    small: set[int]  # nodes whose pages aren't queued at their fault although the script's options ask for that
 
 
 def count_events(words: Sequence[str], answer: str) -> int:
@@ -80,9 +79,7 @@ def count_events(words: Sequence[str], answer: str) -> int:
     return 1
 
 
-def read_expected_answers(
-    commands: Sequence[Command], text: str, options: Options, program: Program
-) -> list[ExpectedAnswer]:
+def read_expected_answers(commands: Sequence[Command], text: str, options: Options, program: Program) -> list[ExpectedAnswer]:
     """Returns the program's answers and events of the commands of a text. InputFault where it has others."""
     answers = program.answers(text, options.words())
     if len(answers) != len(commands):
@@ -151,11 +148,8 @@ def _unmap_in_parts(commands: list[Command], answers: Sequence[ExpectedAnswer], 
 
 
 def _without_underused(commands: list[Command], answers: Sequence[ExpectedAnswer], options: Options) -> list[Command]:
-    """Returns the commands, with one subpage written around the first one that splits or tries an underused page at 511;
-    after it (or its putback) the subpage is zero again.
-
-    A page that only a pin holds can't be written: the program tries it once, the kernel doesn't (comparison.py).
-    """
+    """Returns the commands, with one subpage written before the first one that splits or tries an underused page at 511, and zero
+    again after it (or its putback). A page that only a pin holds can't be written: the program tries it once (comparison.py)."""
     states = [NodeState(order, switch, True) for order, switch in zip(options.orders, options.underused)]
     for at, each in enumerate(answers):
         state = states[each.node]

@@ -1,13 +1,10 @@
-"""The known differences of this kernel, by the smallest script of each (linux/letters).
-
-A script's comments name what is looked at after its last command, what the model shows there, and what a kernel with the
-difference shows. What is looked at is one of
+"""The known differences of this kernel, by the smallest script of each (linux/letters). Its comments name what is looked at after
+its last command, what the model shows there, and what a kernel with the difference shows. What is looked at is one of
 
     thp_split_page                  a counter of /proc/vmstat
     split of order 4                a statistic of a page size
     frames NODE PAGE                the subpages of a split page that still have its frames
-    queue NODE after odd passes     the queue; each pass turns it around (E), so an even number of them shows nothing, and the
-                                    script is run with its last command once more
+    queue NODE after odd passes     the queue; an even number of passes shows nothing, so the last command is run once more (E)
 """
 
 from __future__ import annotations

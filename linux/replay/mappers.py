@@ -1,8 +1,7 @@
-"""The processes that map a script's pages (mapper.c), and the sockets by which they receive commands.
+"""The processes that map a script's pages (mapper.c), and the sockets without names by which they receive commands.
 
-No socket has a name: the tool makes both ends of each and passes one on, so a reply comes from the process that has
-the other end. A process is known by a pidfd that the kernel makes together with it; its number serves only to open its
-files of /proc, and the pidfd shows afterwards that they are its own.
+A process is known by a pidfd that the kernel makes together with it; its number serves only to open its files of /proc, and
+the pidfd shows afterwards that they are its own.
 """
 
 from __future__ import annotations
@@ -53,8 +52,7 @@ class Mapper:
         self._pagemap: NumberFile | None = None
 
     def request(self, word: str, *operands: int, passed: int | None = None) -> int:
-        """Sends a command, with a descriptor or none, and returns the number of the reply; of `fork`, the descriptor that it
-        carries. Refusal where the process could not do it."""
+        """Returns the number of the reply to a command, or the descriptor that it carries. Refusal: the process could not do it."""
         if self._end is None:
             raise RunFailed("a mapping process has failed before")
         try:
@@ -69,10 +67,10 @@ class Mapper:
                 raise RunFailed("a mapping process sends what is no reply" if data else "a mapping process has ended")
         except BaseException as error:  # a signal, too: the reply to this command must not be taken for the next one's
             self.close()
-            if isinstance(error, socket.timeout):
-                raise RunFailed(f"a mapping process sends no reply for {PATIENCE:.0f} s") from error
             if isinstance(error, OSError):
-                raise RunFailed(f"a mapping process has ended: {error.strerror}") from error
+                is_late = isinstance(error, socket.timeout)
+                problem = f"sends no reply for {PATIENCE:.0f} s" if is_late else f"has ended: {error.strerror}"
+                raise RunFailed(f"a mapping process {problem}") from error
             raise
         if number < 0:
             raise Refusal(f"{' '.join(map(str, (word, *operands)))}: {os.strerror(-number)}")
@@ -102,8 +100,7 @@ class Mapper:
             raise
 
     def enter(self, group: str) -> None:
-        """Moves the process into a control group. It moves itself, so no process number is used that another process
-        may have by then."""
+        """Moves the process into a control group. It moves itself, so no number is used that another process may have by then."""
         with open(f"{group}/cgroup.procs", "wb", 0) as members:
             self.request("enter", passed=members.fileno())
 
@@ -119,16 +116,14 @@ class Mapper:
         except (Unavailable, OSError) as error:
             raise RunFailed(f"a mapping process has ended: {error}") from error
 
-    def exit(self) -> None:
-        """Ends the process, and waits until its mappings are gone. One that failed before ends by itself."""
-        pidfd = os.dup(self.pidfd) if self.pidfd >= 0 else -1
+    def end(self) -> bool:
+        """Ends the process; returns whether its mappings are gone, for which it waits. One that failed before ends by itself."""
+        if self._end is None:
+            return True
+        self._end.close()
+        is_gone = has_ended(self.pidfd, PATIENCE)
         self.close()
-        if pidfd >= 0:
-            try:
-                if not has_ended(pidfd, PATIENCE):
-                    raise RunFailed(f"a mapping process doesn't end within {PATIENCE:.0f} s")
-            finally:
-                os.close(pidfd)
+        return is_gone
 
     def close(self) -> None:
         """Closes the tool's descriptors of the process, which ends it."""
@@ -148,7 +143,7 @@ class Mappers:
         mine, its = socket_pair()
         with its:
             self._process = subprocess.Popen([helper("mapper")], stdin=its.fileno(), stdout=subprocess.DEVNULL,
-                                             stderr=subprocess.DEVNULL, cwd="/", env={}, start_new_session=True)
+                                             stderr=subprocess.DEVNULL, cwd="/", env=dict[str, str](), start_new_session=True)
         keeper.own(self._process.pid)
         self.root = Mapper(mine, os.pidfd_open(self._process.pid))
 

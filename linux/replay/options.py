@@ -26,8 +26,7 @@ from .shrinking import SECONDS
 
 NAME = "thpreplay"
 LEAST_LENGTH, MOST_LENGTH = 8, 10000  # commands of a random script
-MOST_SCRIPTS = 10 ** 9
-MOST_SEED = 10 ** 18 - 1
+MOST_SCRIPTS, MOST_SEED = 10 ** 9, 10 ** 18 - 1
 MOST_SEEDS = 1 << 18  # bytes of a fixed set
 MOST_SHRINKING = 3600.0  # seconds
 SETTINGS = ("nodes", "orders", "underused", "blocks")  # of scripts that are files
@@ -87,8 +86,7 @@ def parse_shape(options: argparse.Namespace) -> Shape:
 
 
 def list_scripts(options: argparse.Namespace) -> tuple[int, Iterator[Script]]:
-    """Returns how many scripts a command line names, and the scripts, made one by one: the files', all of them read, those of
-    the seeds, then the random ones."""
+    """Returns how many scripts a command line names, and the scripts, made one by one: files, seeds, then random ones."""
     given = [f"--{name}={getattr(options, name)}" for name in SETTINGS if getattr(options, name) is not None]
     named = [read_script(path, given) for path in options.script]
     fixed = read_seeds(options.seeds) if options.seeds else []
@@ -98,8 +96,7 @@ def list_scripts(options: argparse.Namespace) -> tuple[int, Iterator[Script]]:
 
 
 def read_seeds(path: str) -> list[tuple[int, Shape]]:
-    """Returns a fixed set: the seed and the shape of each line, whose first random script is meant. InputFault names the line
-    that has others."""
+    """Returns a fixed set: the seed and the shape of each line, whose first random script is meant."""
     parser = OneLineParser(prog="seeds", add_help=False, allow_abbrev=False)
     add_shape(parser)
     parse_options = lru_cache(maxsize=None)(lambda *words: parse_shape(parser.parse_args(words)))

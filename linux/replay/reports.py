@@ -3,26 +3,15 @@
 from __future__ import annotations
 
 import json
-from collections.abc import Sequence
-from dataclasses import dataclass
 
 from ..common import machine
 from ..common.script import Script
 from ..common.text import escape
+from .bench import Bench
 from .runner import Outcome, Result, print_line
 from .shrinking import SmallScript
 
 SumLine = tuple[int, str]
-
-
-@dataclass(frozen=True)
-class RunHead:
-    """What a run compares: on which machine, with which program, how many scripts."""
-
-    parts: Sequence[machine.Part]
-    program: str
-    queues: bool
-    scripts: int
 
 
 class Report:
@@ -31,10 +20,10 @@ class Report:
     def __init__(self, quiet: bool = False) -> None:
         self._is_quiet = quiet
 
-    def begin(self, head: RunHead) -> None:
-        """Prints what is compared."""
-        print_line(f"{machine.kernel()}\n{machine.table(list(head.parts))}")
-        print_line(f"program {escape(head.program)}; queues are {'' if head.queues else 'not '}compared")
+    def begin(self, bench: Bench, count: int) -> None:
+        """Prints what is compared, and with which program; `count`: how many scripts."""
+        print_line(f"{machine.kernel()}\n{machine.table(bench.parts)}")
+        print_line(f"program {escape(bench.program.path)}; queues are {'compared' if bench.memory else 'not compared'}")
 
     def print_command(self, line: str) -> None:
         """Prints a command before it is run (`--verbose`)."""
@@ -56,10 +45,10 @@ class Report:
 class JsonReport(Report):
     """A JSON document a line: one for the run, one for each script, one for the sums."""
 
-    def begin(self, head: RunHead) -> None:
-        parts = [{"name": part.name, "here": part.here, "text": part.text} for part in head.parts]
-        self._print({"run": {"kernel": machine.kernel(), "machine": parts, "program": head.program,
-                             "queues": head.queues, "scripts": head.scripts}})
+    def begin(self, bench: Bench, count: int) -> None:
+        parts = [{"name": part.name, "here": part.here, "text": part.text} for part in bench.parts]
+        self._print({"run": {"kernel": machine.kernel(), "machine": parts, "program": bench.program.path,
+                             "queues": bench.memory is not None, "scripts": count}})
 
     def print_command(self, line: str) -> None:
         self._print({"command": line.strip()})

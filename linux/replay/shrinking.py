@@ -1,4 +1,4 @@
-"""Makes a script that differs small: commands, pages, nodes and numbers are taken away while it differs in the same way.
+"""Makes a script that differs small: commands, pages and numbers are taken away while it differs in the same way.
 
 Each step is a run, so what counts is what the kernel shows of the smaller script, not what is expected of it.
 """
@@ -12,20 +12,18 @@ from itertools import islice
 
 from ..common.errors import RunFailed
 from ..common.machine import kernel
-from ..common.script import MARK, Command, Options, Script, text_of
+from ..common.script import MARK, Command, Script, text_of
 from ..common.text import escape
 from .expected_answers import PAGE_COMMANDS, batch_at
 from .runner import Outcome, Result
 
 SECONDS = 60.0  # that a script gets
 MOST_RUNS = 600
-MOST_FOR_PAIRS = 12  # commands of a script of which pairs are tried
 
 
-def make_script(script: Script, commands: Sequence[Command], options: Options | None = None) -> Script:
-    """Returns a script of this name with other commands, or other options, too."""
-    options = options or script.options
-    return Script(script.name, f"{MARK}{' '.join(options.words())}\n{text_of(commands)}", options)
+def make_script(script: Script, commands: Sequence[Command]) -> Script:
+    """Returns a script with other commands."""
+    return replace(script, text=f"{MARK}{' '.join(script.options.words())}\n{text_of(commands)}")
 
 
 @dataclass(frozen=True)
@@ -56,15 +54,12 @@ class Shrinker:
         self._run, self._seconds, self._clock = run, seconds, clock
         self._kinds: set[str] = set()
 
-    def shrink_first(self, script: Script, outcome: Outcome) -> SmallScript | None:
-        """Returns the smallest script, or None where the script doesn't differ, or one of its kind was made small."""
+    def shrink(self, script: Script, outcome: Outcome) -> SmallScript | None:
+        """Returns the smallest script that differs in the same way, or the smallest so far where a run fails or time is up; None
+        where the script doesn't differ, or one of its kind was made small."""
         if outcome.result is not Result.DIFFERS or outcome.kind in self._kinds or self._seconds <= 0:
             return None
         self._kinds.add(outcome.kind)
-        return self.shrink(script, outcome)
-
-    def shrink(self, script: Script, outcome: Outcome) -> SmallScript:
-        """Returns the smallest script that differs as this one does; the smallest so far where a run fails or time is up."""
         best, end = SmallScript(make_script(script, script.commands()), outcome, 0), self._clock() + self._seconds
         runs, has_changed = 0, True
         while has_changed:
@@ -119,26 +114,6 @@ def drop_part(script: Script) -> Iterator[Script]:
         size //= 2
 
 
-def drop_pair(script: Script) -> Iterator[Script]:
-    """Two commands that aren't neighbours, such as a pin and its end; of short scripts only."""
-    count = len(script.commands())
-    if count <= MOST_FOR_PAIRS:
-        yield from (drop(script, {i, j}) for i in range(count) for j in range(i + 2, count))
-
-
-def drop_node(script: Script) -> Iterator[Script]:
-    """A node and its commands; the numbers of later nodes close up."""
-    options = script.options
-    for gone in range(options.nodes if options.nodes > 1 else 0):
-        orders, switches = ([*each[:gone], *each[gone + 1:]] for each in (options.orders, options.underused))
-        commands = []
-        for command in script.commands():
-            node = number_at(command, 1)
-            if node != gone:
-                commands.append(replace(command, words=(command.words[0], str(node - (node > gone)), *command.words[2:])))
-        yield make_script(script, commands, replace(options, nodes=options.nodes - 1, orders=orders, underused=switches))
-
-
 def scan_batch(script: Script) -> Iterator[Script]:
     """A scan instead of a batch that is taken, tried and put back."""
     commands = script.commands()
@@ -161,11 +136,5 @@ def lower_number(script: Script) -> Iterator[Script]:
                     yield make_script(script, [*commands[:place], replace(command, words=words), *commands[place + 1:]])
 
 
-def switch_off(script: Script) -> Iterator[Script]:
-    """The thresholds of underused pages."""
-    if {*script.options.underused} != {None}:
-        yield make_script(script, script.commands(), replace(script.options, underused=(None,) * script.options.nodes))
-
-
-STEPS: Sequence[Callable[[Script], Iterator[Script]]] = (drop_part, drop_node, scan_batch, drop_pair, switch_off, lower_number)
+STEPS: Sequence[Callable[[Script], Iterator[Script]]] = (drop_part, scan_batch, lower_number)
 """Each yields the smaller scripts that it tries."""

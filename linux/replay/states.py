@@ -1,9 +1,5 @@
-"""What a script is compared by: what the kernel shows after a command, the known differences between kernel and model by
-letter (docs/LINUX.md names the kernel's function for each), and a node by its journal: map counts, frames, the queue, and
-what is counted in the model's way and in the kernel's.
-
-The model's rules are those of docs/MODEL.md; the kernel's are described where a field needs them (mm/rmap.c and
-mm/huge_memory.c of the kernel).
+"""What a script is compared by: what the kernel shows after a command, the known differences by letter (docs/LINUX.md), and a
+node by its journal: map counts, frames, the queue, and what is counted in the model's way and in the kernel's.
 """
 
 from __future__ import annotations
@@ -43,25 +39,21 @@ def join_letters(known: Iterable[KnownDifference]) -> str:
 
 @dataclass(frozen=True)
 class PageObservation:
-    """A live page: its frames that are parts of one huge page, the map count of each subpage's frame, and (once it is
-    split) the subpages at which the script's processes map those frames."""
+    """A live page."""
 
-    whole: int
-    counts: tuple[int, ...]
-    mapped: int
+    whole: int  # frames that are parts of one huge page
+    counts: tuple[int, ...]  # of each subpage's frame
+    mapped: int  # once it is split: the subpages at which the script's processes map its frames
 
 
 @dataclass(frozen=True)
 class Observation:
-    """The kernel at one moment. Counters since the script's start, the PMD splits that only served to map less than a whole
-    page taken off. A queue lists page numbers, oldest first, and a frame of no page as its negative; None: it wasn't read.
-    Where the kernel has a queue for each NUMA node, they are joined in the order of these nodes; `numa_nodes` has the NUMA
-    node of each queued page that isn't on node 0."""
+    """The kernel at one moment."""
 
-    counts: Counts
+    counts: Counts  # since the script's start, without the PMD splits that only served to map less than a whole page
     pages: dict[PageName, PageObservation]
-    queues: list[list[int] | None]
-    numa_nodes: dict[PageName, int] = field(default_factory=dict)
+    queues: list[list[int] | None]  # page numbers, oldest first, a frame of no page as its negative; None: it wasn't read
+    numa_nodes: dict[PageName, int] = field(default_factory=dict)  # of queued pages that aren't on node 0; a queue is in their order
 
     def line(self) -> str:
         """Returns the look as a line of JSON."""

@@ -3,8 +3,8 @@
 from __future__ import annotations
 
 import json
+from collections.abc import Sequence
 from pathlib import Path
-from typing import Sequence
 
 from ..common.counters import Counter, Counts, SizeCounter
 from ..common.errors import InputFault
@@ -23,8 +23,7 @@ def parse_observation(line: str) -> Observation:
     pages = {(node, page): PageObservation(whole, tuple(count for count, many in counts for _ in range(many)), int(mapped, 16))
              for node, page, whole, counts, mapped in parsed["pages"]}
     numa_nodes = {(node, page): place for node, page, place in parsed.get("numa_nodes", [])}
-    machine = {Counter(key): value for key, value in parsed["machine"].items()}
-    return Observation(Counts(machine, sizes), pages, parsed["queues"], numa_nodes)
+    return Observation(Counts({Counter(key): value for key, value in parsed["machine"].items()}, sizes), pages, parsed["queues"], numa_nodes)
 
 
 def load(name: str) -> tuple[Script, list[Observation]]:
@@ -36,10 +35,8 @@ def load(name: str) -> tuple[Script, list[Observation]]:
 class StoredKernel(KernelPages):
     """Looks, one for the beginning and one for each command."""
 
-    drops_zeros = True
-
     def __init__(self, looks: list[Observation], scans_exactly: bool = False) -> None:
-        self._looks, self.scans_exactly = iter(looks), scans_exactly
+        self._looks, self.drops_zeros, self.scans_exactly = iter(looks), True, scans_exactly
 
     def run_command(self, expected: ExpectedAnswer, state: NodeState) -> None:
         pass
