@@ -10,7 +10,7 @@ _thpreplay() {
     esac
     COMPREPLY=($(compgen -W '--program --nodes --orders --underused --blocks --random --seed --node-counts --page-orders
         --thresholds --length --fill --keep --shrink --store --no-memory --exact-scans
-        --seeds --fingerprint --markdown --tap --json --show --wait --undo --verbose --quiet --help --version' -- "$word"))
+        --seeds --fingerprint --markdown --json --show --wait --undo --verbose --quiet --help --version' -- "$word"))
     COMPREPLY+=($(compgen -f -- "$word"))
 }
 complete -F _thpreplay thpreplay

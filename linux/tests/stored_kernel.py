@@ -23,7 +23,8 @@ def parse_observation(line: str) -> Observation:
     pages = {(node, page): PageObservation(whole, tuple(count for count, many in counts for _ in range(many)), int(mapped, 16))
              for node, page, whole, counts, mapped in parsed["pages"]}
     numa_nodes = {(node, page): place for node, page, place in parsed.get("numa_nodes", [])}
-    return Observation(Counts({Counter(key): value for key, value in parsed["machine"].items()}, sizes), pages, parsed["queues"], numa_nodes)
+    machine = {Counter(key): value for key, value in parsed["machine"].items()}
+    return Observation(Counts(machine, sizes), pages, parsed["queues"], numa_nodes)
 
 
 def load(name: str) -> tuple[Script, list[Observation]]:

@@ -43,12 +43,13 @@ class ShrinkerFileTest(unittest.TestCase):
 
     def test_scans_are_those_of_the_kernels_lists(self) -> None:
         """Page n of the node has the frame n."""
-        for queue, lists, most, wanted in (
+        cases: list[tuple[list[int], dict[int, list[int]], int, list[tuple[int, int]] | None]] = [
             ([1, 2, 3], {0: [2, 1, 3]}, 2, [(0, 2)]),
             ([1, 2, 3], {0: [3], 1: [2, 1]}, 128, [(0, 1), (1, 2)]),
             ([1, 2], {0: [1, 2]}, 0, []), ([], {0: []}, 8, []),
             ([1, 2, 3], {0: [3, 2, 1]}, 2, None), ([1, 2, 3], {0: [1], 1: [2, 3]}, 2, None),
-        ):
+        ]
+        for queue, lists, most, wanted in cases:
             pages: Any = object.__new__(KernelPages)
             shrinker = mock.Mock()
             pages._bench = SimpleNamespace(shrinker=shrinker, queues=lambda _node: lists, servers=[SimpleNamespace(path="group")])

@@ -9,6 +9,7 @@ import unittest
 from collections.abc import Callable, Sequence
 from functools import partial
 from pathlib import Path
+from typing import Any
 from unittest import mock
 
 from ..common.counters import Counter, CounterWatch, Counts, SizeCounter
@@ -35,7 +36,7 @@ def replay(script: Script, looks: list[Observation], program: Program | None = N
 
 
 def with_counter(look: Observation, counter: Counter, more: int) -> Observation:
-    machine = {**look.counts.machine, counter: (look.counts.machine[counter] or 0) + more}
+    machine: dict[Counter, int | None] = {**look.counts.machine, counter: (look.counts.machine[counter] or 0) + more}
     return dataclasses.replace(look, counts=Counts(machine, look.counts.sizes))
 
 
@@ -44,8 +45,8 @@ def with_failed(look: Observation, more: int) -> Observation:
     return dataclasses.replace(look, counts=Counts(look.counts.machine, {**sizes}))
 
 
-def with_page(look: Observation, **changes: object) -> Observation:
-    return dataclasses.replace(look, pages={(0, 0): dataclasses.replace(look.pages[0, 0], **changes)})  # type: ignore[arg-type]
+def with_page(look: Observation, **changes: Any) -> Observation:
+    return dataclasses.replace(look, pages={(0, 0): dataclasses.replace(look.pages[0, 0], **changes)})
 
 
 def without_subpage(look: Observation) -> Observation:
@@ -57,8 +58,8 @@ def with_count(look: Observation) -> Observation:
     return with_page(look, counts=(*counts[:300], 2, *counts[301:]))
 
 
-def turned(look: Observation) -> Observation:
-    return dataclasses.replace(look, queues=[(look.queues[0] or [])[::-1]])
+def with_queue(look: Observation, queue: list[int] | None = None) -> Observation:
+    return dataclasses.replace(look, queues=[queue or (look.queues[0] or [])[::-1]])
 
 
 class StoredTest(unittest.TestCase):
@@ -79,8 +80,8 @@ class StoredTest(unittest.TestCase):
             ("first", 3, with_count, "map count of page 0 of node 0, subpage 300, kernel 2, thpsplit 1"),
             ("first", 4, without_subpage, "frames of page 0 of node 0, kernel 256-299,301-511, thpsplit 256-511"),
             ("first", 2, partial(with_page, whole=511), "frames of page 0 of node 0, kernel 511, thpsplit 512"),
-            ("pins", three, turned, r"queue of node 0, kernel \[2, 1, 0\], thpsplit \[0, 1, 2\]"),
-            ("first", 3, partial(dataclasses.replace, queues=[[0, -4096]]), "frame 0x1000"),
+            ("pins", three, with_queue, r"queue of node 0, kernel \[2, 1, 0\], thpsplit \[0, 1, 2\]"),
+            ("first", 3, partial(with_queue, queue=[0, -4096]), "frame 0x1000"),
         ]
         for name, at, spoil, pattern in cases:
             script, looks = load(name)
@@ -142,12 +143,13 @@ class TriesTest(unittest.TestCase):
 
     def test_counters_count_where_the_machine_is_quiet(self) -> None:
         here, there = CounterDifference("a", "a", 1), CounterDifference("a", "a", 2)
-        for differences, moved, wanted in (
+        cases: list[tuple[list[Difference], list[int], Result]] = [
             ([Difference("a")] * 3, [0, 1], Result.DIFFERS), ([here] * 3, [], Result.DIFFERS), ([here] * 3, [0, 1], Result.INCONCLUSIVE),
             ([here] * 3, [0] * 31 + [1], Result.INCONCLUSIVE), ([here, there], [], Result.INCONCLUSIVE),
-        ):
+        ]
+        for differences, moved, wanted in cases:
             with self.subTest(differences=differences, moved=moved):
-                self.assertIs(self.outcome([*differences], moved), wanted)
+                self.assertIs(self.outcome(differences, moved), wanted)
 
     def test_tries_are_run_until_one_agrees(self) -> None:
         for ends, wanted, text in (

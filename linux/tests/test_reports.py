@@ -21,7 +21,7 @@ from ..replay.runner import Outcome, Result
 from ..replay.shrinking import SmallScript
 
 SEEDS = Path(__file__).resolve().parent.parent / "seeds.txt"
-DIGEST = ""
+DIGEST = "f14421b488dc4cccbce2f667daa668ae8341187cfebe13bab09ebfcbf5b9add4"
 SCRIPT = script_of("a #1\n.script", "setup\nalloc 0\nsplitpmd 0 0\nscan 0 8\n")
 DIFFERING = Outcome(Result.DIFFERS, "", "frames of page 0, kernel 1, thpsplit 2", "frames", 2)
 OUTCOMES = [Outcome(Result.AGREES), Outcome(Result.AGREES, "AF"), DIFFERING, Outcome(Result.SKIPPED, "", "close"),

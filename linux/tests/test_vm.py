@@ -26,8 +26,8 @@ IMAGE = bytes(0x202) + b"HdrS" + b"the rest"
 COMMAND = ["image", "--", "ls"]
 
 
-def call_tool(*words: str, **more: dict[str, str]) -> subprocess.CompletedProcess[str]:
-    return subprocess.run([sys.executable, "-B", str(LINUX / "thpvm"), *words], capture_output=True, text=True, check=False, **more)  # type: ignore
+def call_tool(*words: str, env: dict[str, str] | None = None) -> subprocess.CompletedProcess[str]:
+    return subprocess.run([sys.executable, "-B", str(LINUX / "thpvm"), *words], capture_output=True, text=True, check=False, env=env)
 
 
 def command_of(process: str) -> bytes:
