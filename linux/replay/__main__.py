@@ -1,4 +1,4 @@
-"""The command line `thpreplay` (options.py)."""
+"""The command line `thpreplay` (options.py), and what it prints: lines for people, or JSON, a document a line."""
 
 from __future__ import annotations
 
@@ -8,19 +8,75 @@ import os
 from collections import Counter as Tallies
 from typing import NoReturn
 
+from ..common import machine
 from ..common.errors import DIFFERS, DONE, INCONCLUSIVE, InputFault, Unavailable
 from ..common.files import OwnFolder
 from ..common.keeper import recover
 from ..common.script import MARK, Script
 from ..common.text import escape, text_lines
 from ..common.tool import run_tool
-from .bench import open_bench
+from .bench import Bench, open_bench
 from .letters import Match, find_all, look_on, markdown
 from .options import NAME, list_scripts, parse_words
-from .reports import JsonReport, Report, SumLine
 from .runner import Outcome, Result, Runner, print_line
 from .shrinking import Shrinker, SmallScript
 from .states import Observation
+
+SumLine = tuple[int, str]
+
+
+class Report:
+    """How a run is printed: lines for people. `quiet`: of the scripts only those that differ or are inconclusive."""
+
+    def __init__(self, quiet: bool = False) -> None:
+        self._is_quiet = quiet
+
+    def begin(self, bench: Bench, count: int) -> None:
+        """Prints what is compared, and with which program; `count`: how many scripts."""
+        print_line(f"{machine.kernel()}\n{machine.table(bench.parts)}")
+        print_line(f"program {escape(bench.program.path)}; queues are {'compared' if bench.memory else 'not compared'}")
+
+    def print_command(self, line: str) -> None:
+        """Prints a command before it is run (`--verbose`)."""
+        print_line(line)
+
+    def print_script(self, script: Script, outcome: Outcome, small: SmallScript | None) -> None:
+        """Prints a script's outcome, and the smallest script that differs in the same way."""
+        if not self._is_quiet or outcome.result in (Result.DIFFERS, Result.INCONCLUSIVE):
+            print_line(f"{escape(script.name)}: {outcome.line()}")
+        for line in small.lines() if small else []:
+            print_line(f"  {line}")
+
+    def end(self, sums: list[SumLine]) -> None:
+        """Prints the sums."""
+        for many, what in sums:
+            print(f"{many:9} {escape(what)}")
+
+
+class JsonReport(Report):
+    """A JSON document a line: one for the run, one for each script, one for the sums."""
+
+    def begin(self, bench: Bench, count: int) -> None:
+        parts = [{"name": part.name, "here": part.here, "text": part.text} for part in bench.parts]
+        self._print({"run": {"kernel": machine.kernel(), "machine": parts, "program": bench.program.path,
+                             "queues": bench.memory is not None, "scripts": count}})
+
+    def print_command(self, line: str) -> None:
+        self._print({"command": line.strip()})
+
+    def print_script(self, script: Script, outcome: Outcome, small: SmallScript | None) -> None:
+        self._print({
+            "script": escape(script.name), "result": outcome.result.value, "known": list(outcome.known),
+            "text": escape(outcome.text), "commands": len(script.commands()), "differs_at": outcome.command or None,
+            "smallest": {"script": small.text(), "text": escape(small.outcome.text), "runs": small.runs} if small else None,
+        })
+
+    def end(self, sums: list[SumLine]) -> None:
+        self._print({"sums": {escape(what): many for many, what in sums}})
+
+    @staticmethod
+    def _print(document: dict[str, object]) -> None:
+        print_line(json.dumps(document))
 
 
 class Folder:

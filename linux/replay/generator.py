@@ -203,20 +203,14 @@ class Generator:
 
     def _refused_command(self, page: Sketch) -> None:
         """Adds a command that is often refused."""
-        kind = self._chance.randrange(5)
-        if kind < 2:
-            word = ("unpin", "splitpmd")[kind]
+        word = self._chance.choice(["unpin", "splitpmd", "unmap", "no page"])
+        if word == "unmap":
+            self._add("unmap", 0, page.subpages + 1)
+        elif word == "no page":
+            self._add("unmap", len(self._pages[self._node]), 0, 1, page=False)
+        else:
             self._add(word)
             page.change(word)
-        elif kind == 2:
-            self._add("unmap", 0, page.subpages + 1)
-        elif kind == 3:
-            self._lines.append(f"unmap {self._node} {len(self._pages[self._node])} 0 1")
-        else:
-            self._add("unmap", 0, 1)
-            part = next((part for part, bits in enumerate(page.parts) if bits & 1), None)
-            if part is not None:
-                page.drop(part, 1)
 
 
 def scripts(count: int, seed: int, shape: Shape) -> Iterator[Script]:

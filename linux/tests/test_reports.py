@@ -15,13 +15,13 @@ from typing import Any
 from ..common.errors import InputFault
 from ..common.machine import Part
 from ..common.script import Script, script_of
+from ..replay.__main__ import JsonReport, Report
 from ..replay.options import list_scripts, parse_words
-from ..replay.reports import JsonReport, Report
 from ..replay.runner import Outcome, Result
 from ..replay.shrinking import SmallScript
 
 SEEDS = Path(__file__).resolve().parent.parent / "seeds.txt"
-DIGEST = "f14421b488dc4cccbce2f667daa668ae8341187cfebe13bab09ebfcbf5b9add4"
+DIGEST = "a6be1cccc3f051465200ea7e17af4bdcbeb026587998dd96bdc360e0dd98929f"
 SCRIPT = script_of("a #1\n.script", "setup\nalloc 0\nsplitpmd 0 0\nscan 0 8\n")
 DIFFERING = Outcome(Result.DIFFERS, "", "frames of page 0, kernel 1, thpsplit 2", "frames", 2)
 OUTCOMES = [Outcome(Result.AGREES), Outcome(Result.AGREES, "AF"), DIFFERING, Outcome(Result.SKIPPED, "", "close"),

@@ -15,11 +15,12 @@ from unittest import mock
 
 from ..common.errors import InputFault, RunFailed, Unavailable
 from ..vm import init
+from ..vm.__main__ import parse_words
 from ..vm.guest_files import FILE, LINK, PROGRAM, Archive, libraries_of, path_in_guest
-from ..vm.guest_run import GuestRun, KvmFailed, MessageReader, find_panic, lines_of_console, parse_status
+from ..vm.guest_run import (
+    QEMU, GuestRun, KvmFailed, MessageReader, VirtualMachine, find_panic, lines_of_console, memory_file, parse_status, words_of,
+)
 from ..vm.kernels import extract_image, find_kernel, next_package
-from ..vm.options import parse_words
-from ..vm.virtual_machine import QEMU, VirtualMachine, memory_file, words_of
 
 LINUX = Path(__file__).resolve().parent.parent
 IMAGE = bytes(0x202) + b"HdrS" + b"the rest"

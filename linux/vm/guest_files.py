@@ -99,7 +99,7 @@ class GuestFiles:
         self._programs: list[str] = []
 
     def add(self, options: argparse.Namespace) -> None:
-        """Adds everything that a command line needs (options.py)."""
+        """Adds everything that a command line needs (__main__.py)."""
         for name in MERGED:
             self._archive.add(f"/usr/{name}", FOLDER)
             self._archive.add(f"/{name}", LINK, f"usr/{name}".encode())
