@@ -21,7 +21,7 @@ from ..common.page_files import Frames
 from ..common.program import Program
 from ..common.script import Options
 from .expected_answers import Unsupported
-from .mappers import Mapper, Mappers
+from .mappers import Mapper, start_root
 
 NEEDED = ["root", "huge pages", "memory control groups", "frames", "counters"]
 SHRINKERS, SHRINKER = "/sys/kernel/debug/shrinker", "thp-deferred_split-"
@@ -71,7 +71,7 @@ class Bench:
         keeper.set(COLLAPSE_SLEEP, QUIET)
         self.frames = Frames()
         self.groups = Groups(keeper, "thpreplay")
-        self.mappers = Mappers(keeper)
+        self._root = start_root(keeper)
         self.servers: list[Server] = []
         self._groups_made = 0
 
@@ -103,7 +103,7 @@ class Bench:
         while len(self.servers) < options.nodes:
             path = self.groups.add(f"node{self._groups_made}")
             self._groups_made += 1
-            process = self.mappers.root.fork()
+            process = self._root.fork()
             self._keeper.own_descriptor(process.pidfd)
             process.enter(path)
             self.servers.append(Server(path, process, self.memory.group(path) if self.memory else 0))
@@ -118,7 +118,7 @@ class Bench:
     def close(self) -> None:
         """Ends all processes."""
         self.renew()
-        self.mappers.close()
+        self._root.end()
         self.frames.close()
 
 

@@ -48,6 +48,9 @@ class Match(enum.Enum):
     UNSEEN = "cannot be seen here"
 
 
+CELLS = {Match.MODEL: "model", Match.LETTER: "letter", Match.UNSEEN: "unseen"}
+
+
 @dataclass(frozen=True)
 class Finding:
     """A letter on this kernel; `text` is what was seen instead, or why nothing can be."""
@@ -59,11 +62,6 @@ class Finding:
     def line(self) -> str:
         """Returns the report, printable."""
         return f"{self.letter}: {self.match.value}" + (f": {escape(self.text)}" if self.text else "")
-
-    def cell(self) -> str:
-        """Returns the cell of a table."""
-        return {Match.MODEL: "model", Match.LETTER: "letter", Match.UNSEEN: "unseen"}.get(
-            self.match, escape(self.text).replace("|", "/"))
 
 
 @dataclass(frozen=True)
@@ -174,4 +172,5 @@ def find_all(look: Look) -> list[Finding]:
 
 def markdown(findings: Sequence[Finding], version: str) -> list[str]:
     """Returns the column of a kernel as a table."""
-    return [f"|Letter|{version}|", "|-|-|", *(f"|{each.letter}|{each.cell()}|" for each in findings)]
+    cells = [f"|{each.letter}|{CELLS.get(each.match, escape(each.text).replace('|', '/'))}|" for each in findings]
+    return [f"|Letter|{version}|", "|-|-|", *cells]

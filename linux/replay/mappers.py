@@ -136,22 +136,11 @@ class Mapper:
             self.pidfd = -1
 
 
-class Mappers:
-    """All of them: forks of one root process, which maps nothing."""
-
-    def __init__(self, keeper: Keeper) -> None:
-        mine, its = socket_pair()
-        with its:
-            self._process = subprocess.Popen([helper("mapper")], stdin=its.fileno(), stdout=subprocess.DEVNULL,
-                                             stderr=subprocess.DEVNULL, cwd="/", env=dict[str, str](), start_new_session=True)
-        keeper.own(self._process.pid)
-        self.root = Mapper(mine, os.pidfd_open(self._process.pid))
-
-    def close(self) -> None:
-        """Ends the root process."""
-        self.root.close()
-        try:
-            self._process.wait(PATIENCE)
-        except subprocess.TimeoutExpired:
-            self._process.kill()
-            self._process.wait()
+def start_root(keeper: Keeper) -> Mapper:
+    """Starts the process that maps nothing, whose forks all others are."""
+    mine, its = socket_pair()
+    with its:
+        process = subprocess.Popen([helper("mapper")], stdin=its.fileno(), stdout=subprocess.DEVNULL, stderr=subprocess.DEVNULL,
+                                   cwd="/", env=dict[str, str](), start_new_session=True)
+    keeper.own(process.pid)
+    return Mapper(mine, os.pidfd_open(process.pid))

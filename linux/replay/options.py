@@ -13,10 +13,9 @@ from __future__ import annotations
 
 import argparse
 from collections.abc import Iterator, Sequence
-from functools import lru_cache
 from itertools import chain
 
-from ..common.arguments import OneLineParser, seconds, tool_parser, whole, wholes
+from ..common.arguments import seconds, tool_parser, whole, wholes
 from ..common.errors import InputFault
 from ..common.files import PMD_ORDER, read_input
 from ..common.script import LEAST_ORDER, MOST_NODES, Script, read_script
@@ -32,18 +31,6 @@ MOST_SHRINKING = 3600.0  # seconds
 SETTINGS = ("nodes", "orders", "underused", "blocks")  # of scripts that are files
 
 
-def add_shape(parser: argparse.ArgumentParser) -> None:
-    """Adds the options from which random scripts are drawn."""
-    parser.add_argument("--node-counts", default="1,1,1,2,4", metavar="LIST", type=wholes(1, MOST_NODES),
-                        help="random scripts draw from it")
-    parser.add_argument("--page-orders", default="9,9,9,2,3,4,5,6,7,8", metavar="LIST", type=wholes(LEAST_ORDER, PMD_ORDER),
-                        help="and from it")
-    parser.add_argument("--thresholds", default="off", metavar="LIST", type=wholes(0, (1 << PMD_ORDER) - 1, "off"),
-                        help="off or numbers, drawn for each script")
-    parser.add_argument("--length", type=whole(0, MOST_LENGTH), default=40,
-                        help="most commands of a random script, at least 8")
-
-
 def parse_words(given: Sequence[str] | None = None) -> argparse.Namespace:
     """Returns the options of a command line, by default this process's own."""
     parser = tool_parser(NAME, __doc__)
@@ -57,7 +44,14 @@ def parse_words(given: Sequence[str] | None = None) -> argparse.Namespace:
     parser.add_argument("--random", type=whole(0, MOST_SCRIPTS), default=0, metavar="COUNT",
                         help="run COUNT random scripts")
     parser.add_argument("--seed", type=whole(0, MOST_SEED), default=1)
-    add_shape(parser)
+    parser.add_argument("--node-counts", default="1,1,1,2,4", metavar="LIST", type=wholes(1, MOST_NODES),
+                        help="random scripts draw from it")
+    parser.add_argument("--page-orders", default="9,9,9,2,3,4,5,6,7,8", metavar="LIST", type=wholes(LEAST_ORDER, PMD_ORDER),
+                        help="and from it")
+    parser.add_argument("--thresholds", default="off", metavar="LIST", type=wholes(0, (1 << PMD_ORDER) - 1, "off"),
+                        help="off or numbers, drawn for each script")
+    parser.add_argument("--length", type=whole(0, MOST_LENGTH), default=40,
+                        help="most commands of a random script besides those that fill queues, at least 8")
     parser.add_argument("--seeds", metavar="FILE", help="run a fixed set: a line a seed, with options of random scripts "
                         "after it; # begins a comment")
     parser.add_argument("--fill", choices=("data", "zeros"), help="what new pages hold; else zeros by thresholds")
@@ -81,8 +75,8 @@ def parse_words(given: Sequence[str] | None = None) -> argparse.Namespace:
 
 def parse_shape(options: argparse.Namespace) -> Shape:
     """Returns what random scripts are drawn from."""
-    return Shape(options.node_counts, options.page_orders, options.thresholds, max(options.length, LEAST_LENGTH),
-                 getattr(options, "exact_scans", False))  # a set of seeds has no such option
+    length = max(options.length, LEAST_LENGTH)
+    return Shape(options.node_counts, options.page_orders, options.thresholds, length, options.exact_scans)
 
 
 def list_scripts(options: argparse.Namespace) -> tuple[int, Iterator[Script]]:
@@ -97,18 +91,18 @@ def list_scripts(options: argparse.Namespace) -> tuple[int, Iterator[Script]]:
 
 def read_seeds(path: str) -> list[tuple[int, Shape]]:
     """Returns a fixed set: the seed and the shape of each line, whose first random script is meant."""
-    parser = OneLineParser(prog="seeds", add_help=False, allow_abbrev=False)
-    add_shape(parser)
-    parse_options = lru_cache(maxsize=None)(lambda *words: parse_shape(parser.parse_args(words)))
-    parse_seed, out = whole(0, MOST_SEED), []
     try:
         lines = text_lines(read_input(path, MOST_SEEDS).decode("ascii"))
     except UnicodeDecodeError as error:
         raise InputFault(f"{escape(path)} is no list of seeds: it isn't ASCII") from error
+    out = []
     for place, line in enumerate(lines, 1):
-        seed, *words = line.partition("#")[0].split() or [""]
+        words = line.partition("#")[0].split()
         try:
-            out += [(parse_seed(seed), parse_options(*words))] if seed else []
-        except (InputFault, argparse.ArgumentTypeError) as fault:
+            options = parse_words(["--seed", *words]) if words else None
+        except InputFault as fault:
             raise InputFault(f"{escape(path)}, line {place}: {fault}") from fault
+        if options and options.script:
+            raise InputFault(f"{escape(path)}, line {place}: one seed, and options of random scripts")
+        out += [(options.seed, parse_shape(options))] if options else []
     return out
