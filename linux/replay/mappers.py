@@ -104,15 +104,15 @@ class Mapper:
         with open(f"{group}/cgroup.procs", "wb", 0) as members:
             self.request("enter", passed=members.fileno())
 
-    def frames(self, count: int) -> list[int | None]:
-        """Returns the frame that each of its subpages has, or None where it maps none."""
+    def frames(self, first: int, count: int) -> list[int | None]:
+        """Returns the frames of so many subpages, or None where it maps none."""
         try:
             if self._pagemap is None:
                 self._pagemap = NumberFile(f"/proc/{process_of(self.pidfd)}/pagemap")
                 if has_ended(self.pidfd):
                     self.close()  # its number may be another process's
                     raise RunFailed("a mapping process has ended")
-            return [frame_of_entry(entry) for entry in self._pagemap.at(self.at // BASE, count)]
+            return [frame_of_entry(entry) for entry in self._pagemap.at(self.at // BASE + first, count)]
         except (Unavailable, OSError) as error:
             raise RunFailed(f"a mapping process has ended: {error}") from error
 

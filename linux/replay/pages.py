@@ -104,13 +104,15 @@ class KernelPages:
         return Observation(Counts(machine, since.sizes), pages, queues, numa_nodes)
 
     def _look_at(self, held: KernelPage, is_split: bool) -> PageObservation:
-        frames, mapped = self._bench.frames, 0
-        for mapper in held.mappers:
-            if is_split and mapper.mapped:
-                for i, frame in enumerate(mapper.frames(held.subpages)):
-                    mapped |= (frame == held.frame + i) << i
-        whole = 0 if is_split else frames.whole(held.frame, held.subpages)
-        return PageObservation(whole, frames.counts(held.frame, held.subpages), mapped)
+        whole = mapped = 0
+        if not is_split:
+            head, *tails = self._bench.frames.flags(held.frame, held.subpages)
+            whole = bool(head & PageFlag.COMPOUND_HEAD) + sum(map(tails.count, {tail for tail in tails if tail & PageFlag.COMPOUND_TAIL}))
+        for mapper in held.mappers if is_split else []:
+            for first, count in runs(mapper.mapped):
+                pairs = zip(mapper.frames(first, count), range(held.frame + first, held.frame + first + count))
+                mapped |= int("".join("01"[frame == own] for frame, own in pairs)[::-1], 2) << first
+        return PageObservation(whole, self._bench.frames.counts(held.frame, held.subpages), mapped)
 
     def _queue(self, node: int, state: NodeState, numa_nodes: dict[PageName, int]) -> list[int] | None:
         """Returns a node's queue as page numbers, by NUMA node; puts the NUMA nodes other than 0 into `numa_nodes`."""
@@ -130,7 +132,7 @@ class KernelPages:
     def _alloc(self, node: int, state: NodeState) -> None:
         mapper = self._fork(self._bench.servers[node].process)
         mapper.alloc(state.order, self._fill)
-        frames = mapper.frames(1 << state.order)
+        frames = mapper.frames(0, 1 << state.order)
         first = frames[0] or 0
         head, tail = self._bench.frames.flags(first, 2)
         is_compound = head & PageFlag.COMPOUND_HEAD and tail & PageFlag.COMPOUND_TAIL

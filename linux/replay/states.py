@@ -92,11 +92,11 @@ class PageState:
 
     def totals(self) -> tuple[int, ...]:
         """Returns the map count of each subpage."""
-        return tuple(self.whole + own for own in self.own)
+        return tuple([self.whole + own for own in self.own] if any(self.own) else [self.whole] * len(self.own))
 
     def used_subpages(self) -> int:
         """Returns the subpages that are mapped."""
-        return self.every if self.whole else sum(1 << i for i, own in enumerate(self.own) if own)
+        return self.every if self.whole else int("".join("01"[own > 0] for own in reversed(self.own)), 2)
 
     def change(self, event: Event) -> None:
         """Applies an event to the mappings and the content."""
