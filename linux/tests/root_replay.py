@@ -211,14 +211,6 @@ class ReplayTests(RootCase):
                 self.assertRegex(problems, rb"\Athpreplay: [ -~]+\n\Z")
                 self.assertLess(used.ru_utime + used.ru_stime - before.ru_utime - before.ru_stime, REFUSAL_SECONDS)
 
-    def test_a_name_is_printed_without_control_characters(self) -> None:
-        path = os.path.join(os.fsencode(self.make_folder()), b"a\x1b[2J\n\x0b\xff\xe2\x80\xa8.script")
-        shutil.copy(os.fsencode(SCRIPT), path)
-        status, out, problems = decide(os.fsdecode(path))
-        self.assertEqual(status, DONE, problems)
-        self.assertIn(b"a\\x1b[2J\\x0a\\x0b\\xff\\xe2\\x80\\xa8.script: agrees\n", out)
-        self.assertNotRegex(out, rb"[^\n -~]")
-
     def test_a_script_that_shows_an_injected_bug_is_made_small(self) -> None:
         folder = self.make_folder()
         program, kept = inject_bug("unmap-short", folder), Path(folder) / "kept"

@@ -14,7 +14,7 @@ from ..replay.expected_answers import read_expected_answers
 from ..replay.letters import MOST_RUNS, ONLY_RECORDINGS, Finding, Look, Match, find_all, find_letter, markdown, read_letters, read_look
 from ..replay.shrinking import drop
 from ..replay.states import KnownDifference, NodeState, Observation, PageObservation
-from .matrix import DOCUMENT, columns_of, find_wrong
+from .matrix import DOCUMENT, find_wrong
 from .model_kernel import InProcessProgram, ModelKernel
 
 LETTERS = {each.letter: each for each in read_letters()}
@@ -119,11 +119,9 @@ class FindingTest(unittest.TestCase):
 class MatrixTest(unittest.TestCase):
     def test_another_column_of_a_kernel_is_found(self) -> None:
         document = "text\n\n|Letter|6.1|7.3+deb|\n|-|-|-|\n|A|letter|model|\n|B|unseen|frames 1|\n\n|Letter|6.1|\n"
-        self.assertEqual(columns_of(document), {"6.1": ["A letter", "B unseen"], "7.3+deb": ["A model", "B frames 1"]})
         self.assertIsNone(find_wrong("|Letter|7.3+deb|\n|-|-|\n|A|model|\n|B|frames 1|\n", document))
-        self.assertIsNone(find_wrong("|Letter|8|\n|-|-|\n|A|letter|\n|B|frames 1|\n", document))
+        self.assertIsNone(find_wrong("|Letter|8|\n|-|-|\n|A|letter|\n", document))
         self.assertRegex(str(find_wrong("|Letter|6.1|\n|-|-|\n|A|letter|\n|B|letter|\n", document)), "another column of 6.1")
-        self.assertEqual(columns_of("no matrix"), {})
 
     def test_the_tool_and_the_document_have_one_form(self) -> None:
         document = [line for line in DOCUMENT.read_text(encoding="utf-8").split("\n") if re.match(r"\|(Letter|-|[A-Z])\|", line)]

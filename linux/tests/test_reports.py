@@ -22,7 +22,7 @@ from ..replay.shrinking import SmallScript
 
 SEEDS = Path(__file__).resolve().parent.parent / "seeds.txt"
 DIGEST = "a6be1cccc3f051465200ea7e17af4bdcbeb026587998dd96bdc360e0dd98929f"
-SCRIPT = script_of("a #1\n.script", "setup\nalloc 0\nsplitpmd 0 0\nscan 0 8\n")
+SCRIPT = script_of("a #1\n\x1b[2J\udcff\u2028.script", "setup\nalloc 0\nsplitpmd 0 0\nscan 0 8\n")
 DIFFERING = Outcome(Result.DIFFERS, "", "frames of page 0, kernel 1, thpsplit 2", "frames", 2)
 OUTCOMES = [Outcome(Result.AGREES), Outcome(Result.AGREES, "AF"), DIFFERING, Outcome(Result.SKIPPED, "", "close"),
             Outcome(Result.INCONCLUSIVE, "", "other programs move x")]
@@ -44,7 +44,8 @@ class ReportTest(unittest.TestCase):
         lines, quiet = (printed(Report(is_quiet)) for is_quiet in (False, True))
         wanted = ["agrees", "agrees (but for A F)", "differs: frames of page 0, kernel 1, thpsplit 2", "skipped: close",
                   "inconclusive: other programs move x"]
-        self.assertEqual([line for line in lines if line.startswith("a ")], [f"a #1\\x0a.script: {line}" for line in wanted])
+        name = "a #1\\x0a\\x1b[2J\\xff\\xe2\\x80\\xa8.script"
+        self.assertEqual([line for line in lines if line.startswith("a ")], [f"{name}: {line}" for line in wanted])
         self.assertIn("  smallest, 3 commands after 7 runs: alloc 0; splitpmd 0 0; scan 0 8", lines)
         self.assertEqual([line.split(": ")[1] for line in quiet if line.startswith("a ")], ["differs", "inconclusive"])
 
