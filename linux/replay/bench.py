@@ -66,8 +66,8 @@ class Bench:
         _, most = resource.getrlimit(resource.RLIMIT_NOFILE)
         resource.setrlimit(resource.RLIMIT_NOFILE, (most, most))  # each mapping process needs three
         self._keeper, self.parts, self.program, self.memory, self.shrinker = keeper, parts, program, memory, shrinker
-        # letter P; mm/memory.c: zap_present_folio_ptes came with Linux 6.9
-        self.unmaps_singly = [int(number) for number in re.findall("[0-9]+", os.uname().release)[:2]] < [6, 9]
+        # letter P: until Linux 6.10, mm/rmap.c queues a page that loses a PTE mapping even if no other is left
+        self.unmaps_singly = [int(number) for number in re.findall("[0-9]+", os.uname().release)[:2]] < [6, 10]
         keeper.set(COLLAPSE_SLEEP, QUIET)
         self.frames = Frames()
         self.groups = Groups(keeper, "thpreplay")
