@@ -110,8 +110,9 @@ class KernelPages:
             whole = bool(head & PageFlag.COMPOUND_HEAD) + sum(map(tails.count, {tail for tail in tails if tail & PageFlag.COMPOUND_TAIL}))
         for mapper in held.mappers if is_split else []:
             for first, count in runs(mapper.mapped):
-                pairs = zip(mapper.frames(first, count), range(held.frame + first, held.frame + first + count))
-                mapped |= int("".join("01"[frame == own] for frame, own in pairs)[::-1], 2) << first
+                found, own = mapper.frames(first, count), [*range(held.frame + first, held.frame + first + count)]
+                same = (1 << at for at, (frame, wanted) in enumerate(zip(found, own), first) if frame == wanted)
+                mapped |= bits_of(first, count) if found == own else sum(same)
         return PageObservation(whole, self._bench.frames.counts(held.frame, held.subpages), mapped)
 
     def _queue(self, node: int, state: NodeState, numa_nodes: dict[PageName, int]) -> list[int] | None:
