@@ -154,10 +154,9 @@ class GuestFiles:
             self._add_file(helper(name))
         for tool in TOOLS:  # so that its name alone starts it
             name = os.path.basename(tool)
-            if is_checkout:
-                self._archive.add(f"/usr/bin/{name}", LINK, os.fsencode(LINUX / tool))
-            else:
-                self._add_file(str(LINUX.parents[2] / "bin" / name))
+            path = LINUX / tool if is_checkout else LINUX.parents[2] / "bin" / name
+            self._add_file(str(path))
+            self._archive.add(f"/usr/bin/{name}", LINK, os.fsencode(path))
         for name, built in (("thpsplit", BUILT), ("thpcheck", BUILT_CHECKER)):
             found = find(name, built)
             if found:
