@@ -14,7 +14,7 @@ from ..common.script import MARK, Options, Script
 from ..common.subpages import bits_of, runs
 
 MOST_BLOCKS = 256  # of a node
-MOST_ALLOCATED = 250  # pages of a node in a script, so that dead ones don't fill it
+MOST_QUEUE, MOST_ALLOCATED = 200, 250  # pages of a queue, and of a node in a script
 MOST_SUBPAGES = 12800  # of the pages in a queue: 200 pages of order 6, 25 of order 9
 MOST_SCANNED = 128  # pages of a scan (docs/FORMATS.md)
 MOST_TRIED = 32  # pages of a batch

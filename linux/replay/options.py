@@ -20,7 +20,7 @@ from ..common.errors import InputFault
 from ..common.files import PMD_ORDER, read_input
 from ..common.script import LEAST_ORDER, MOST_NODES, Script, read_script
 from ..common.text import escape, text_lines
-from .generator import Shape, scripts
+from .generator import MOST_QUEUE, Shape, scripts
 from .shrinking import SECONDS
 
 NAME = "thpreplay"
@@ -50,6 +50,8 @@ def parse_words(given: Sequence[str] | None = None) -> argparse.Namespace:
                         help="and from it")
     parser.add_argument("--thresholds", default="off", metavar="LIST", type=wholes(0, (1 << PMD_ORDER) - 1, "off"),
                         help="off or numbers, drawn for each script")
+    parser.add_argument("--queue-lengths", default="1,2,3,4,6,8,12,16,24,32,64,200", metavar="LIST", type=wholes(0, MOST_QUEUE),
+                        help="the lengths to which queues are filled, drawn for each node")
     parser.add_argument("--length", type=whole(0, MOST_LENGTH), default=40,
                         help="most commands of a random script besides those that fill queues, at least 8")
     parser.add_argument("--seeds", metavar="FILE", help="run a fixed set: a line a seed, with options of random scripts "
@@ -76,7 +78,7 @@ def parse_words(given: Sequence[str] | None = None) -> argparse.Namespace:
 def parse_shape(options: argparse.Namespace) -> Shape:
     """Returns what random scripts are drawn from."""
     length = max(options.length, LEAST_LENGTH)
-    return Shape(options.node_counts, options.page_orders, options.thresholds, length, options.exact_scans)
+    return Shape(options.node_counts, options.page_orders, options.thresholds, length, options.exact_scans, options.queue_lengths)
 
 
 def list_scripts(options: argparse.Namespace) -> tuple[int, Iterator[Script]]:

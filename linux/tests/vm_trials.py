@@ -44,7 +44,7 @@ class KernelTests(unittest.TestCase):
 
     def try_kernel(self, suite: str, shape: str = "", numa_nodes: int = 1) -> None:
         """Runs all commands on a kernel, and judges each."""
-        replay = f"{PROGRAM} --quiet --node-counts 1,2 {shape}"
+        replay = f"{PROGRAM} --quiet --node-counts 1,2 --queue-lengths 2,4,8,20 {shape}"
         commands = {
             "scripts": f"thpreplay {replay} --random {SCRIPTS}",
             "reverse": f"python3 linux/tests/wrong_queues.py reverse {replay} --random {SCRIPTS_FOR_BUG} --shrink 0",
