@@ -74,6 +74,10 @@ class LetterScriptTest(unittest.TestCase):
 
 
 class FindingTest(unittest.TestCase):
+    def test_more_than_a_number_is_the_letter(self) -> None:
+        wanted = {"1": Match.MODEL, "2": Match.LETTER, "34": Match.LETTER, "0": Match.NEITHER, "x": Match.NEITHER}
+        self.assertEqual({seen: LETTERS["F"].match(seen).match for seen in wanted}, wanted)
+
     def test_two_runs_in_a_row_decide(self) -> None:
         look = look_at_model(LETTERS["A"].script)
 

@@ -160,12 +160,15 @@ class RequestTest(unittest.TestCase):
             self.setUp()
             self.assert_fails("sends no reply")
 
-    def test_more_than_one_descriptor_is_refused_and_closed(self) -> None:
+    def test_another_number_of_descriptors_is_refused_and_closed(self) -> None:
         before = len(os.listdir("/proc/self/fd"))
-        with tempfile.TemporaryFile() as file:
-            socket.send_fds(self.its, [REPLY.pack(0)], [file.fileno()] * 3)
-            self.assert_fails("no reply", "fork")
-        self.assertEqual(len(os.listdir("/proc/self/fd")), before - 1)
+        for word, count in (("fork", 3), ("fork", 0), ("pin", 1)):
+            with self.subTest(word, count=count), tempfile.TemporaryFile() as file:
+                self.setUp()
+                socket.send_fds(self.its, [REPLY.pack(0)], [file.fileno()] * count)
+                self.assert_fails("no reply", word)
+                self.its.close()
+        self.assertEqual(len(os.listdir("/proc/self/fd")), before)
 
     def test_a_descriptor_that_is_no_pidfd_has_no_number(self) -> None:
         with tempfile.TemporaryFile() as file, self.assertRaises(RunFailed):
