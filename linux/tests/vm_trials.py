@@ -28,8 +28,8 @@ from linux.tests.root_case import main  # noqa: E402
 
 PROGRAM = "" if program.find("thpsplit", program.BUILT) else "--program linux/tests/plain_program.py"
 CHECKER = "" if program.find("thpcheck", checker.BUILT) else "--checker linux/tests/plain_checker.py"
-SCRIPTS, SCRIPTS_FOR_BUG = 10, 5
-STEPS, EVENTS = 400, 1000  # of a recording
+SCRIPTS = 10
+STEPS, EVENTS = 200, 1000  # of a recording
 
 
 class KernelTests(unittest.TestCase):
@@ -47,8 +47,8 @@ class KernelTests(unittest.TestCase):
         replay = f"{PROGRAM} --quiet --node-counts 1,2 --queue-lengths 2,4,8,20 {shape}"
         commands = {
             "scripts": f"thpreplay {replay} --random {SCRIPTS}",
-            "reverse": f"python3 linux/tests/wrong_queues.py reverse {replay} --random {SCRIPTS_FOR_BUG} --shrink 0",
-            "other": f"python3 linux/tests/wrong_queues.py other {replay} --random {SCRIPTS_FOR_BUG} --shrink 0",
+            "reverse": f"python3 linux/tests/wrong_queues.py reverse {replay} --random 5 --shrink 0",
+            "other": f"python3 linux/tests/wrong_queues.py other {replay} --random 2 --shrink 0",
             "recording": f"thprecord {CHECKER} --straighten --own 1,{STEPS},1 --least {EVENTS}",
             "letters": f"thpreplay {PROGRAM} --fingerprint --markdown",
         }
