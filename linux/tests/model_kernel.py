@@ -8,7 +8,7 @@
 from __future__ import annotations
 
 from collections import Counter as Tallies
-from typing import Dict, List, Sequence, Tuple
+from collections.abc import Sequence
 from unittest.mock import Mock
 
 from ..common.counters import Counter, Counts, SizeCounter
@@ -41,10 +41,10 @@ class ModelKernel:
         self._expected = expect_run(script, InProcessProgram(), unmaps_singly)
         options = self._expected.options
         self._states = [NodeState(order, switch, zero_filled) for order, switch in zip(options.orders, options.underused)]
-        self._queues: List[List[int]] = [[] for _ in self._states]
-        self._failed: Dict[int, int] = Tallies()
+        self._queues: list[list[int]] = [[] for _ in self._states]
+        self._failed: dict[int, int] = Tallies()
 
-    def looks(self) -> List[Observation]:
+    def looks(self) -> list[Observation]:
         """Returns what it shows before all commands, and after each."""
         out = [self._look()]
         for expected in self._expected.answers:
@@ -87,15 +87,14 @@ class ModelKernel:
             sizes[SizeCounter.SPLIT, order] = self._sum("split", order)
             sizes[SizeCounter.SPLIT_FAILED, order] = self._failed[order]
             sizes[SizeCounter.DEFERRED, order] = deferred
-        pages: Dict[Tuple[int, int], PageObservation] = {}
+        pages = {}
         for node, state in enumerate(self._states):
             for number, page in enumerate(state.pages):
+                pages[node, number] = PageObservation(len(page.own) if page.live else 0, page.totals(), 0)
                 if page.live and page.split:
                     mapped = page.held & ~page.dropped_zero
                     counts = tuple(count if mapped >> at & 1 else 0 for at, count in enumerate(page.totals()))
                     pages[node, number] = PageObservation(0, counts, mapped)
-                else:
-                    pages[node, number] = PageObservation(len(page.own) if page.live else 0, page.totals(), 0)
         return Observation(Counts({**machine}, {**sizes}), pages, [list(queue) for queue in self._queues])
 
 
