@@ -1,4 +1,4 @@
-"""The fixture of the root tests, and the count that ends each test script."""
+"""The fixture of the root tests, and the count that ends each test script: `N passed, M failed`."""
 
 from __future__ import annotations
 
@@ -10,6 +10,11 @@ from types import FrameType
 from typing import NoReturn
 
 from ..common.errors import SKIPPED
+
+
+def heed_interrupts() -> None:
+    """Undoes in a child that a shell's background job ignores SIGINT, and so would what it starts."""
+    signal.signal(signal.SIGINT, signal.default_int_handler)
 
 
 def end_test(_number: int, _frame: FrameType | None) -> NoReturn:
@@ -44,11 +49,10 @@ class CountingResult(unittest.TextTestResult):
 
 
 def main(*words: str) -> NoReturn:
-    """Runs the tests of the script, or those that unittest finds by these words. The last line is `N passed, M failed`; the status is 1
-    where one failed, and 77 where none could run."""
+    """Runs the tests of the script, or those that unittest finds by these words; the status is 77 where none could run."""
     runner = unittest.TextTestRunner(resultclass=CountingResult, verbosity=1 if words else 2)
-    program = unittest.main(None if words else "__main__", argv=[sys.argv[0], *(words or sys.argv[1:])], testRunner=runner, exit=False)
-    result = program.result
+    given = [sys.argv[0], *(words or sys.argv[1:])]
+    result = unittest.main(None if words else "__main__", argv=given, testRunner=runner, exit=False).result
     assert isinstance(result, CountingResult)
     failed = len(result.failures) + len(result.errors) + len(result.unexpectedSuccesses)
     for reason in sorted({reason for _, reason in result.skipped}):
