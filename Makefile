@@ -27,8 +27,8 @@
 # make believe: counts the definitions and lines below the contracts that docs/PROVED.md names
 # make linux:   random scripts on the running kernel and on the program: CASES=n SEED=s PROGRAM=path (needs root; status 77
 #               if this machine can compare nothing)
-# make linux-vm: the same on Debian's kernels in virtual machines, recordings and known differences: KERNELS="SUITE:PACKAGE .."
-#               CASES=n SEED=s (needs qemu-system-x86; without KVM an hour, or hours with the plain reading of the model)
+# make linux-vm: the same on Debian's kernels in virtual machines, a recording and known differences (needs qemu-system-x86; without
+#               KVM at most 40 minutes)
 # make root-tests: attacks on the tools that run as root, and what these leave after any end (needs root; about 10 minutes)
 # make bench:   times on large scripts, beside plain Rust, and of single calls (docs/PERFORMANCE.md has the figures)
 # make help:    these lines
@@ -193,7 +193,7 @@ linux:
 	@python3 -m linux.replay --program $(PROGRAM) --random $(CASES) --seed $(SEED) --quiet
 
 linux-vm:
-	@python3 linux/tests/vm_trials.py --seed $(SEED) $(if $(filter command%,$(origin CASES)),--cases $(CASES)) $(KERNELS)
+	@python3 linux/tests/vm_trials.py
 
 root-tests:
 	@for script in linux/tests/root_*.py; do echo "== $$script"; python3 $$script || test $$? = 77 || failed=1; done; test -z "$$failed"

@@ -71,11 +71,6 @@ class Frames:
         """Returns how often each of `count` frames is mapped."""
         return tuple(self._files[1].at(first, count))
 
-    def whole(self, first: int, count: int) -> int:
-        """Returns how many of these frames are still parts of one compound page that begins at the first."""
-        head, *tails = self.flags(first, count)
-        return sum(map(bool, [head & PageFlag.COMPOUND_HEAD, *(tail & PageFlag.COMPOUND_TAIL for tail in tails)]))
-
     def close(self) -> None:
         for file in self._files:
             file.close()

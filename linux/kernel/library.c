@@ -104,7 +104,7 @@ static bool has_kernel_sizes(const struct btf *own, const struct btf *kernel)
 	return true;
 }
 
-/* Returns the value of an enumerator, also of an enumeration without a name; -1: there is none, and a message says so. */
+/* Returns the value of an enumerator, also of an enumeration without a name; -1: there is none. */
 static int64_t find_enumerator(const struct btf *types, const char *name)
 {
 	for (uint32_t id = 1; id < btf__type_cnt(types); id++) {
@@ -114,8 +114,23 @@ static int64_t find_enumerator(const struct btf *types, const char *name)
 			if (!strcmp(btf__name_by_offset(types, btf_enum(type)[i].name_off), name))
 				return btf_enum(type)[i].val;
 	}
-	fprintf(messages, "this kernel has no enumerator %s\n", name);
 	return -1;
+}
+
+/*
+ * Returns a flag of an allocation by its enumerator; 0: there is none, and a message says so. Kernels without the enumeration have
+ * macros, which aren't among their types: `macro` is the flag's value in include/linux/gfp_types.h of Linux 6.1.
+ */
+static uint32_t find_flag(const struct btf *types, const char *name, uint32_t macro)
+{
+	int64_t bit = find_enumerator(types, name);
+
+	if (bit >= 0)
+		return 1u << bit;
+	if (find_enumerator(types, "___GFP_DMA_BIT") < 0)
+		return macro;
+	fprintf(messages, "this kernel has no enumerator %s\n", name);
+	return 0;
 }
 
 /* Returns how many arguments a tracepoint has; -1: there is none. include/trace/bpf_probe.h: typedef btf_trace_NAME, a pointer to a
@@ -228,14 +243,14 @@ static void leave_out(const struct btf *kernel, struct bpf_program *program, int
 /* Sets what the programs are loaded with. */
 static bool configure(struct record_bpf *programs, const struct thp_settings *settings, const struct btf *kernel)
 {
-	int64_t nomemalloc = find_enumerator(kernel, "___GFP_NOMEMALLOC_BIT");
-	int64_t movable = find_enumerator(kernel, "___GFP_MOVABLE_BIT");
+	uint32_t nomemalloc = find_flag(kernel, "___GFP_NOMEMALLOC_BIT", 0x80000);
+	uint32_t movable = find_flag(kernel, "___GFP_MOVABLE_BIT", 0x08);
 
-	if (nomemalloc < 0 || movable < 0)
+	if (!nomemalloc || !movable)
 		return false;
 	memcpy((void *)&programs->rodata->settings, settings, sizeof(*settings));
-	programs->rodata->nomemalloc = 1u << nomemalloc;
-	programs->rodata->movable = 1u << movable;
+	programs->rodata->nomemalloc = nomemalloc;
+	programs->rodata->movable = movable;
 	programs->rodata->has_collapse_order = count_arguments(kernel, "mm_collapse_huge_page") > 3;
 	leave_out(kernel, programs->progs.on_collapse, 3, 4, "collapses");
 	leave_out(kernel, programs->progs.on_moved_pmd, 2, 2, "migrations");

@@ -38,7 +38,7 @@ from .recorder import Recorder, Recording
 from .tampering import try_copies
 
 NAME = "thprecord"
-NEEDED = ["root", "huge pages", "page sizes", "memory control groups", "frames"]
+NEEDED = ["root", "huge pages", "memory control groups", "frames"]
 MOST_TAMPERED = 16 << 20  # bytes of a journal of which altered copies are made
 
 

@@ -12,7 +12,7 @@ from contextlib import suppress
 from dataclasses import dataclass
 from typing import Iterator, Sequence
 
-from ..common.errors import RunFailed
+from ..common.errors import RunFailed, Unavailable
 from ..common.files import COLLAPSE_SLEEP, COMPACT, PMD_ORDER, PTES_NONE, SWITCH, read, size_folder, write
 from ..common.groups import Groups
 from ..common.guardian import members
@@ -163,7 +163,10 @@ class Recorder:
             if options.underused != "off":
                 keeper.set(PTES_NONE, options.underused)
             for order in options.order:
-                keeper.set(f"{size_folder(order)}/enabled", "madvise")
+                if os.path.isdir(size_folder(order)):
+                    keeper.set(f"{size_folder(order)}/enabled", "madvise")
+                elif order < PMD_ORDER:  # before Linux 6.8, PMD size has no settings of its own
+                    raise Unavailable(f"this kernel has no pages of order {order}")
         self._groups = Groups(keeper, "thprecord")
         self._paths = [self._groups.add(f"node{number}") for number in range(options.groups)]
 

@@ -10,8 +10,6 @@
     runner              one script: command, look, comparison
     shrinking           a script that differs, made small by further runs
     letters             the scripts of linux/letters: how this kernel does each known difference
-    reports             what is printed: text, KTAP, JSON
     options             the command line of thpreplay
-    __main__            thpreplay
-    bisection           thpbisect
+    __main__            what is printed: text, JSON; the outputs kept
 """

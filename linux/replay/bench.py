@@ -1,9 +1,10 @@
-"""What runs of scripts begin and end with: the machine, the lock, settings, a control group and a server process for each node."""
+"""What runs of scripts begin and end with: the lock, settings, a control group and a server process for each node."""
 
 from __future__ import annotations
 
 import argparse
 import os
+import re
 import resource
 from collections.abc import Iterator
 from contextlib import closing, contextmanager
@@ -20,7 +21,7 @@ from ..common.page_files import Frames
 from ..common.program import Program
 from ..common.script import Options
 from .expected_answers import Unsupported
-from .mappers import Mapper, Mappers
+from .mappers import Mapper, start_root
 
 NEEDED = ["root", "huge pages", "memory control groups", "frames", "counters"]
 SHRINKERS, SHRINKER = "/sys/kernel/debug/shrinker", "thp-deferred_split-"
@@ -28,9 +29,8 @@ QUIET = 3600000  # milliseconds between khugepaged's rounds: it collapses nothin
 
 
 class ShrinkerFile:
-    """The shrinker of deferred split queues by its file `scan` in debugfs (SHRINKER_DEBUG): it scans so many pages as it is asked
-    for, in one pass without a reclaim. Unavailable where the kernel has none, or control groups are of version 1, which it
-    doesn't find (Documentation/admin-guide/mm/shrinker_debugfs.rst and mm/shrinker_debug.c of the kernel)."""
+    """The file `scan` of the shrinker in debugfs (SHRINKER_DEBUG): it scans so many pages as it is asked for, in one pass without
+    a reclaim. It finds no control groups of version 1 (Documentation/admin-guide/mm/shrinker_debugfs.rst, mm/shrinker_debug.c)."""
 
     def __init__(self, version: int, folder: str = SHRINKERS) -> None:
         if version != 2:
@@ -50,25 +50,28 @@ class ShrinkerFile:
 
 @dataclass(frozen=True)
 class Server:
-    """A node on this kernel: its control group, the process whose forks allocate in it, the group's struct mem_cgroup (0:
-    kernel memory isn't read)."""
+    """A node on this kernel."""
 
-    path: str
-    process: Mapper
-    group: int
+    path: str  # of its control group
+    process: Mapper  # whose forks allocate in it
+    group: int  # the group's struct mem_cgroup; 0: kernel memory isn't read
 
 
 class Bench:
-    """Made once; prepared for each script. `shrinker`: the file by which exactly so many pages are scanned, if that is asked."""
+    """Made once; prepared for each script. `memory`: None where queues aren't read; `shrinker`: None where scans are reclaims."""
 
-    def __init__(self, keeper: Keeper, memory: KernelMemory | None, shrinker: ShrinkerFile | None) -> None:
+    def __init__(
+        self, keeper: Keeper, parts: list[machine.Part], program: Program, memory: KernelMemory | None, shrinker: ShrinkerFile | None
+    ) -> None:
         _, most = resource.getrlimit(resource.RLIMIT_NOFILE)
         resource.setrlimit(resource.RLIMIT_NOFILE, (most, most))  # each mapping process needs three
-        self._keeper, self.memory, self.shrinker = keeper, memory, shrinker
+        self._keeper, self.parts, self.program, self.memory, self.shrinker = keeper, parts, program, memory, shrinker
+        # letter P: until Linux 6.10, mm/rmap.c queues a page that loses a PTE mapping even if no other is left
+        self.unmaps_singly = [int(number) for number in re.findall("[0-9]+", os.uname().release)[:2]] < [6, 10]
         keeper.set(COLLAPSE_SLEEP, QUIET)
         self.frames = Frames()
         self.groups = Groups(keeper, "thpreplay")
-        self.mappers = Mappers(keeper)
+        self._root = start_root(keeper)
         self.servers: list[Server] = []
         self._groups_made = 0
 
@@ -100,40 +103,28 @@ class Bench:
         while len(self.servers) < options.nodes:
             path = self.groups.add(f"node{self._groups_made}")
             self._groups_made += 1
-            process = self.mappers.root.fork()
+            process = self._root.fork()
             self._keeper.own_descriptor(process.pidfd)
             process.enter(path)
             self.servers.append(Server(path, process, self.memory.group(path) if self.memory else 0))
 
     def queues(self, node: int) -> dict[int, list[int]] | None:
-        """Returns the first frames of the pages in a node's queue, oldest first, by NUMA node where the kernel has a queue
-        for each; None where queues aren't read."""
-        memory = self.memory
-        if memory is None:
+        """Returns the first frames of the pages in a node's queue, oldest first, by NUMA node; None where queues aren't read."""
+        if self.memory is None:
             return None
-        found = memory.queues(self.servers[node].group)
-        return {numa: [memory.frame(folio) for folio in folios] for numa, folios in found.items()}
+        found = self.memory.queues(self.servers[node].group)
+        return {numa: [*map(self.memory.frame, folios)] for numa, folios in found.items()}
 
     def close(self) -> None:
         """Ends all processes."""
         self.renew()
-        self.mappers.close()
+        self._root.end()
         self.frames.close()
 
 
-@dataclass(frozen=True)
-class Session:
-    """A bench on this kernel, and the program to compare with."""
-
-    parts: list[machine.Part]
-    program: Program
-    bench: Bench
-
-
 @contextmanager
-def open_session(name: str, options: argparse.Namespace, scans_exactly: bool = False) -> Iterator[Session]:
-    """Opens a session of a tool with options (options.py: add_common). Unavailable where the machine lacks what it needs; Busy
-    where another tool runs."""
+def open_bench(name: str, options: argparse.Namespace) -> Iterator[Bench]:
+    """Opens the bench of a tool (options.py). Unavailable where the machine lacks what it needs; Busy where another tool runs."""
     parts, memory = machine.common_parts(), None
     if options.no_memory:
         parts.append(machine.Part("kernel memory", False, "not wanted (--no-memory)"))
@@ -142,10 +133,10 @@ def open_session(name: str, options: argparse.Namespace, scans_exactly: bool = F
         memory = memory if all(part.here for part in more) else None
         parts += more
     machine.demand(parts, NEEDED)
-    shrinker = ShrinkerFile(find_hierarchy().version) if scans_exactly else None
+    shrinker = ShrinkerFile(find_hierarchy().version) if options.exact_scans else None
     if shrinker and not memory:
         raise Unavailable("exact scans need queues, which are in kernel memory")
     program = Program(options.program)
     with Keeper(name, options.wait) as keeper:
-        with closing(Bench(keeper, memory, shrinker)) as bench:
-            yield Session(parts, program, bench)
+        with closing(Bench(keeper, parts, program, memory, shrinker)) as bench:
+            yield bench

@@ -1,11 +1,8 @@
-"""Compares what the kernel shows of a script with what `thpsplit` reports and the known differences predict.
+"""Compares what the kernel shows of a script with what `thpsplit` reports and the known differences predict, with slack only in
+F (any number of passes that fits what a pinned page shows) and G (a page with both kinds of mappings: 0 or 1).
 
-There is slack only in F (any number of passes that fits what a pinned page shows) and G (a page with both kinds of
-mappings: 0 or 1).
-
-A page's own state (frames, map counts, queues) belongs to the script alone: a difference there is raised at once. The
-counters are of the whole machine, and other programs move them too: the first difference there is kept, no counter is
-compared afterwards, and the comparison of the script's own state continues.
+Frames, map counts and queues belong to the script alone: a difference there is raised at once. The counters are of the whole
+machine, and other programs move them too: the first difference there is kept, and no counter is compared afterwards.
 """
 
 from __future__ import annotations
@@ -13,7 +10,6 @@ from __future__ import annotations
 import re
 from collections import Counter as Tallies
 from collections.abc import Sequence
-from itertools import groupby
 
 from ..common.counters import Counter, Counts, SizeCounter
 from ..common.files import PMD_ORDER
@@ -35,38 +31,21 @@ class Difference(Exception):
 
 
 class CounterDifference(Difference):
-    """Only counters of the whole machine differ; `place` names the counter and the command."""
-
-    def __init__(self, text: str, place: str, kind: str = "", command: int = 0) -> None:
-        super().__init__(text, kind, command)
-        self.place = place
-
-
-def kind_of(what: str, word: str) -> str:
-    """Returns what differs, without lists and numbers, and after which command."""
-    return f"{_NUMBERS.sub('N', what)} after {word}"
-
-
-def require_equal(what: str, kernel: object, model: object) -> None:
-    if kernel != model:
-        raise Difference(f"{what}, kernel {kernel}, thpsplit {model}", what)
+    """Only counters of the whole machine differ."""
 
 
 class Comparison:
-    """Follows a script on all nodes. `known` gathers the known differences that it met, beginning with the run's; `counters`
-    holds the first difference of a counter. `small`: nodes whose pages aren't queued at their fault (C); at their splits
-    zero-filled subpages go back, as in the script. `scans_exactly`: a scan makes one pass over the pages that it takes, the
-    oldest. `command`: the one that is compared, None before all."""
+    """Follows a script on all nodes. `known` gathers the known differences that it met, beginning with the run's. `small`: nodes
+    whose pages aren't queued at their fault (C). `scans_exactly`: a scan makes one pass over the oldest pages. `command`: the one
+    that is compared, None before all."""
 
-    def __init__(
-        self, states: Sequence[NodeState], known: set[KnownDifference], small: set[int], scans_exactly: bool = False
-    ) -> None:
+    def __init__(self, states: Sequence[NodeState], known: set[KnownDifference], small: set[int], scans_exactly: bool = False) -> None:
         self._states, self._small, self._scans_exactly = states, small, scans_exactly
         self._queues: list[list[int]] = [[] for _ in states]  # the kernel's, as they should be
-        self._numa_nodes: list[dict[int, int]] = [{} for _ in states]  # NUMA nodes of queued pages, where a node has several lists
+        self._numa_nodes: list[dict[int, int]] = [{} for _ in states]  # of queued pages, where a node has several lists
         self._failed: dict[int, int] = Tallies()  # failed splits by order, as they should be
         self.known = set(known)
-        self.counters: CounterDifference | None = None
+        self.counters: CounterDifference | None = None  # the first one
         self.sums: Tallies[str] = Tallies()
         self.command: ExpectedAnswer | None = None
 
@@ -75,12 +54,33 @@ class Comparison:
         """The command that is compared, as reports name it."""
         return f"command {self.command.place}: {' '.join(self.command.words)}" if self.command else "before all"
 
-    def placed(self, difference: Difference) -> Difference:
+    def difference(self, text: str, what: str) -> Difference:
         """Returns a difference with its place, and with the difference of a counter before it."""
         earlier = f"; before it {self.counters}" if self.counters else ""
         word, place = (self.command.words[0], self.command.place) if self.command else ("", 0)
-        kind = kind_of(difference.kind or str(difference), word)
-        return Difference(f"{difference} ({self.where}){earlier}", kind, place)
+        return Difference(f"{text} ({self.where}){earlier}", f"{_NUMBERS.sub('N', what)} after {word}", place)
+
+    def _require_equal(self, what: str, kernel: object, model: object) -> None:
+        if kernel != model:
+            raise self.difference(f"{what}, kernel {kernel}, thpsplit {model}", what)
+
+    def _counter_differs(self, what: str, kernel: object, model: object) -> None:
+        """Keeps the first difference of a counter that the kernel has; no other is compared afterwards."""
+        if not self.counters and kernel is not None and kernel != model:
+            found = self.difference(f"{what}, kernel {kernel}, thpsplit {model}", what)
+            self.counters = CounterDifference(str(found), found.kind, found.command)
+
+    def compare(self, observed: Observation) -> None:
+        """Raises Difference where the script's own state differs. A counter that differs is kept in `counters`."""
+        if self.command:
+            self._update(self.command, observed)
+        self._note_known()
+        self._compare_counters(observed.counts)
+        for node, state in enumerate(self._states):
+            for number, page in enumerate(state.pages):
+                if page.live:
+                    self._compare_page(node, number, page, observed.pages[node, number])
+            self._compare_queue(node, state, observed.queues[node])
 
     def _update(self, expected: ExpectedAnswer, observed: Observation) -> None:
         """Computes the kernel's queue and failed splits. The node's state is that after the command."""
@@ -94,30 +94,26 @@ class Comparison:
             self._queues[expected.node] = stays + [page for page in state.queue if page not in stays]
 
     def _scan(self, expected: ExpectedAnswer, state: NodeState, observed: Observation) -> None:
-        pinned = sum(event.word == "pinned" for event in expected.events)
-        taken = [event.page for event in expected.events if event.word == "taken"]
-        stay = [event.page for event in expected.events if event.word == "back"]
+        pinned, taken, stay = ([event.page for event in expected.events if event.word == word] for word in ("pinned", "taken", "back"))
         in_order = [page for page in taken if page in stay]
         if stay != in_order:  # E: the kernel's order is the other way round, the program's is that of taking
-            require_equal(f"order of putting back {in_order}, which the kernel turns around at each pass (E)", "so", stay)
+            self._require_equal(f"order of putting back {in_order}, which the kernel turns around at each pass (E)", "so", stay)
         queue = [page for page in self._queues[expected.node] if page in stay]
         rest = [page for page in self._queues[expected.node] if page not in taken]
-        if rest:
-            self.sums["scans of a part of a queue"] += 1
-        once = pinned - len(stay)  # pinned underused pages leave the queue after one try
+        self.sums["scans of a part of a queue"] += bool(rest)
+        once = len(pinned) - len(stay)  # pinned underused pages leave the queue after one try
         if state.threshold == NEVER and once:
             self.known.add(KnownDifference.D)
             once = 0
-        numa_nodes, observed_queue = self._numa_nodes[expected.node], observed.queues[expected.node] or []
+        numa_nodes, kernel_queue = self._numa_nodes[expected.node], observed.queues[expected.node] or []
         lists = lists_of(queue, numa_nodes)
-        shown = lists_of([page for page in observed_queue if page not in rest], numa_nodes)
+        shown = lists_of([page for page in kernel_queue if page not in rest], numa_nodes)
         turned = {number: is_turned(pages, shown.get(number)) for number, pages in lists.items()}
         failed = self._failed_tries(state.order, once, lists, turned, observed.counts)
         self._failed[state.order] += once + failed
-        if len(lists) > 1:
-            self.sums["scans of several NUMA nodes with pinned pages"] += 1
-        elif queue:
-            self.sums[f"scans of {failed // len(queue)} passes with pinned pages"] += 1
+        if queue:
+            what = "several NUMA nodes" if len(lists) > 1 else f"{failed // len(queue)} passes"
+            self.sums[f"scans of {what} with pinned pages"] += 1
         if failed > len(queue):
             self.known.add(KnownDifference.F)
         after = {number: pages if turned[number] is False else pages[::-1] for number, pages in lists.items()}
@@ -145,24 +141,6 @@ class Comparison:
             self._counter_differs("split_failed of a scan", failed + once, wanted)
         return failed if fits else fewest
 
-    def _counter_differs(self, what: str, kernel: object, model: object) -> None:
-        """Keeps the first difference of a counter that the kernel has; no other is compared afterwards."""
-        if not self.counters and kernel is not None and kernel != model:
-            found = self.placed(Difference(f"{what}, kernel {kernel}, thpsplit {model}", what))
-            self.counters = CounterDifference(str(found), f"{what} {self.where}", found.kind, found.command)
-
-    def compare(self, observed: Observation) -> None:
-        """Raises Difference where the script's own state differs. A counter that differs is kept in `counters`."""
-        if self.command:
-            self._update(self.command, observed)
-        self._note_known()
-        self._compare_counters(observed.counts)
-        for node, state in enumerate(self._states):
-            for number, page in enumerate(state.pages):
-                if page.live:
-                    self._compare_page(node, number, page, observed.pages[node, number])
-            self._compare_queue(node, state, observed.queues[node])
-
     def _sum(self, name: str, order: int | None = None) -> int:
         return sum(getattr(state.event_counts, name) for state in self._states if order in (None, state.order))
 
@@ -179,9 +157,8 @@ class Comparison:
             self.known.add(KnownDifference.A)
         if self._sum("partly_by_split") + self._sum("perhaps_partly"):
             self.known.add(KnownDifference.G)
-        for state in self._states:
-            tally = state.event_counts
-            if state.order < PMD_ORDER and (tally.split or tally.failed or tally.queued or tally.split_pmd):
+        for order in {state.order for state in self._states} - {PMD_ORDER}:
+            if any(self._sum(name, order) for name in ("split", "failed", "queued", "split_pmd")):
                 self.known.add(KnownDifference.W)
 
     def _compare_counters(self, counts: Counts) -> None:
@@ -192,16 +169,13 @@ class Comparison:
             Counter.UNDERUSED: self._sum("underused"),
             Counter.SPLIT_FAILED: self._failed[PMD_ORDER],
         }
-        for counter, value in machine.items():
-            self._counter_differs(counter.value, counts.machine[counter], value)
+        for counter, model in machine.items():
+            self._counter_differs(counter.value, counts.machine[counter], model)
         for order in sorted({state.order for state in self._states}):
-            sizes = {
-                SizeCounter.SPLIT: self._sum("split", order),
-                SizeCounter.DEFERRED: self._deferred(order, counts.sizes[SizeCounter.DEFERRED, order]),
-                SizeCounter.SPLIT_FAILED: self._failed[order],
-            }
-            for key, value in sizes.items():
-                self._counter_differs(f"{key.value} of order {order}", counts.sizes[key, order], value)
+            deferred = self._deferred(order, counts.sizes[SizeCounter.DEFERRED, order])
+            models = (self._sum("split", order), self._failed[order], deferred)
+            for key, model in zip((SizeCounter.SPLIT, SizeCounter.SPLIT_FAILED, SizeCounter.DEFERRED), models):
+                self._counter_differs(f"{key.value} of order {order}", counts.sizes[key, order], model)
 
     def _compare_page(self, node: int, number: int, page: PageState, observed: PageObservation) -> None:
         name, compared = f"page {number} of node {node}", page.every
@@ -209,12 +183,13 @@ class Comparison:
             held, compared = page.held & ~page.dropped_zero, observed.mapped
             if held != page.held:
                 self.known.add(KnownDifference.C if node in self._small else KnownDifference.B)
-            require_equal(f"frames of {name}", set_text(observed.mapped), set_text(held))
+            self._require_equal(f"frames of {name}", set_text(observed.mapped), set_text(held))
         else:
-            require_equal(f"frames of {name}", observed.whole, len(page.own))
-        for i, (count, wanted) in enumerate(zip(observed.counts, page.totals())):
-            if count != wanted and compared >> i & 1:
-                require_equal(f"map count of {name}, subpage {i}", count, wanted)
+            self._require_equal(f"frames of {name}", observed.whole, len(page.own))
+        totals = page.totals()
+        for i in range(len(totals) if observed.counts != totals else 0):
+            if compared >> i & 1:
+                self._require_equal(f"map count of {name}, subpage {i}", observed.counts[i], totals[i])
 
     def _compare_queue(self, node: int, state: NodeState, queue: list[int] | None) -> None:
         if queue is None:
@@ -222,9 +197,10 @@ class Comparison:
         numa_nodes = self._numa_nodes[node]
         expected_queue = join_lists(lists_of(self._queues[node], numa_nodes))
         shown = [page if page >= 0 else f"frame {-page:#x}" for page in queue]
-        require_equal(f"queue of node {node}", shown, expected_queue)
+        self._require_equal(f"queue of node {node}", shown, expected_queue)
         self.sums["queues compared"] += 1
-        self.sums["queues compared, of two pages or more"] += len(expected_queue) > 1
+        for least in (2, 20):
+            self.sums[f"queues compared, of {least} pages or more"] += len(expected_queue) >= least
         self.sums["queues compared, of several NUMA nodes"] += len(lists_of(expected_queue, numa_nodes)) > 1
         if expected_queue != join_lists(lists_of(state.queue, numa_nodes)):
             self.known.add(KnownDifference.E)
@@ -232,11 +208,8 @@ class Comparison:
 
 def lists_of(queue: Sequence[int], numa_nodes: dict[int, int]) -> Lists:
     """Returns the pages of a queue by NUMA node, in their order; a page whose node isn't known is on node 0."""
-
-    def node_of(page: int) -> int:
-        return numa_nodes.get(page, 0)
-
-    return {numa_node: [*pages] for numa_node, pages in groupby(sorted(queue, key=node_of), node_of)}
+    nodes = sorted({numa_nodes.get(page, 0) for page in queue})
+    return {node: [page for page in queue if numa_nodes.get(page, 0) == node] for node in nodes}
 
 
 def join_lists(lists: Lists) -> list[int]:

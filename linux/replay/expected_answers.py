@@ -1,9 +1,10 @@
 """What `thpsplit` reports of a script, command by command, from its answers and its journal.
 
-Two known differences change the pages' later states, so the kernel's run differs from then on. `thpsplit` computes that
+Three known differences change the pages' later states, so the kernel's run differs from then on. `thpsplit` computes that
 run, too, from a script that is changed to express the kernel's rule:
 
     C   a page below PMD size isn't queued at its fault: the nodes of such pages get `off`
+    P   an unmap that removes all mappings of a page leaves it partly mapped first: it is done in two parts
     D   at threshold 511 no page is underused: of a page that is all zero one subpage is written before each scan, and
         filled with zeros after it
 """
@@ -13,7 +14,7 @@ from __future__ import annotations
 import re
 from collections.abc import Sequence
 from dataclasses import dataclass, replace
-from itertools import takewhile
+from itertools import groupby, takewhile
 
 from ..common.errors import InputFault
 from ..common.files import PMD_ORDER
@@ -58,13 +59,12 @@ class ExpectedAnswer:
 
 @dataclass(frozen=True)
 class ExpectedRun:
-    """What the kernel should do: by commands, under these options; the known differences that the run includes; the
-    nodes whose pages aren't queued at their fault although the script's options ask for that."""
+    """What the kernel should do, by commands, under these options."""
 
     answers: list[ExpectedAnswer]
     options: Options
-    known: set[KnownDifference]
-    small: set[int]
+    known: set[KnownDifference]  # that the run includes
+    small: set[int]  # nodes whose pages aren't queued at their fault although the script's options ask for that
 
 
 def count_events(words: Sequence[str], answer: str) -> int:
@@ -79,9 +79,7 @@ def count_events(words: Sequence[str], answer: str) -> int:
     return 1
 
 
-def read_expected_answers(
-    commands: Sequence[Command], text: str, options: Options, program: Program
-) -> list[ExpectedAnswer]:
+def read_expected_answers(commands: Sequence[Command], text: str, options: Options, program: Program) -> list[ExpectedAnswer]:
     """Returns the program's answers and events of the commands of a text. InputFault where it has others."""
     answers = program.answers(text, options.words())
     if len(answers) != len(commands):
@@ -100,10 +98,10 @@ def read_expected_answers(
     return out
 
 
-def expect_run(script: Script, program: Program) -> ExpectedRun:
-    """Returns the run of a script that the kernel should show. Unsupported where workers share a node; TextError where
-    the script has an error."""
-    commands = script.commands()
+def expect_run(script: Script, program: Program, unmaps_singly: bool = False) -> ExpectedRun:
+    """Returns the run of a script that the kernel should show; `unmaps_singly`: one that has P. Unsupported where workers share a
+    node; TextError where the script has an error."""
+    commands = own_commands = script.commands()
     owners: dict[str, int] = {}
     for command in commands:
         if command.section and owners.setdefault(" ".join(command.words[1:2]), command.section) != command.section:
@@ -118,19 +116,40 @@ def expect_run(script: Script, program: Program) -> ExpectedRun:
         answers = read_expected_answers(commands, script.text, options, program)
         if [(each.answer, each.events) for each in answers] != [(each.answer, each.events) for each in before]:
             known.add(KnownDifference.C)
-    while len(changed := _without_underused(commands, answers, options)) > len(commands):
-        commands = changed
-        answers = read_expected_answers(commands, text_of(commands), options, program)
-        known.add(KnownDifference.D)
-    return ExpectedRun(fold_batches([each for each in answers if each.place != INSERTED]), options, known, small)
+    rules = [(KnownDifference.P, _unmap_in_parts)] if unmaps_singly else []
+    for letter, change in [*rules, (KnownDifference.D, _without_underused)]:
+        while len(changed := change(commands, answers, options)) > len(commands):
+            commands = changed
+            answers = read_expected_answers(commands, text_of(commands), options, program)
+            known.add(letter)
+    parts = [[*group] for place, group in groupby(answers, lambda each: each.place) if place != INSERTED]
+    whole = [replace(part[-1], words=own_commands[part[0].place - 1].words, events=join_events(part)) for part in parts]
+    return ExpectedRun(fold_batches(whole), options, known, small)
+
+
+def join_events(answers: Sequence[ExpectedAnswer]) -> tuple[Event, ...]:
+    """Returns the events of several commands."""
+    return tuple(event for each in answers for event in each.events)
+
+
+def _unmap_in_parts(commands: list[Command], answers: Sequence[ExpectedAnswer], options: Options) -> list[Command]:
+    """Returns the commands, with each unmap that removes all mappings of a page that wasn't partly mapped in two parts."""
+    states = [NodeState(order, switch, True) for order, switch in zip(options.orders, options.underused)]
+    out: list[Command] = []
+    for command, each in zip(commands, answers):
+        state, ranges = states[each.node], []
+        for event in each.events:
+            if state.empties_at_once(event):
+                ranges = [(0, event.count - 1), (event.count - 1, 1)]
+            state.apply(event)
+        parts = [replace(command, words=(*command.words[:3], str(first), str(count))) for first, count in ranges]
+        out += parts or [command]
+    return out
 
 
 def _without_underused(commands: list[Command], answers: Sequence[ExpectedAnswer], options: Options) -> list[Command]:
-    """Returns the commands, with one subpage written around the first one that splits or tries an underused page at 511;
-    after it (or its putback) the subpage is zero again.
-
-    A page that only a pin holds can't be written: the program tries it once, the kernel doesn't (comparison.py).
-    """
+    """Returns the commands, with one subpage written before the first one that splits or tries an underused page at 511, and zero
+    again after it (or its putback). A page that only a pin holds can't be written: the program tries it once (comparison.py)."""
     states = [NodeState(order, switch, True) for order, switch in zip(options.orders, options.underused)]
     for at, each in enumerate(answers):
         state = states[each.node]
@@ -157,9 +176,8 @@ def fold_batches(answers: list[ExpectedAnswer]) -> list[ExpectedAnswer]:
     while at < len(answers):
         batch = answers[at:at + batch_at(answers, at)]
         if batch and not batch[0].is_refused and any(each.answer == "done" for each in batch[1:-1]):
-            events = tuple(event for each in batch for event in each.events)
             answer = f"{batch[0].answer}, tried to the end, {batch[-1].answer}"
-            out.append(ExpectedAnswer(batch[0].place, ("scan", *batch[0].words[1:3]), answer, events))
+            out.append(ExpectedAnswer(batch[0].place, ("scan", *batch[0].words[1:3]), answer, join_events(batch)))
             at += len(batch)
         else:
             out.append(answers[at])

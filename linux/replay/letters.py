@@ -1,13 +1,10 @@
-"""The known differences of this kernel, by the smallest script of each (linux/letters).
-
-A script's comments name what is looked at after its last command, what the model shows there, and what a kernel with the
-difference shows. What is looked at is one of
+"""The known differences of this kernel, by the smallest script of each (linux/letters). Its comments name what is looked at after
+its last command, what the model shows there, and what a kernel with the difference shows. What is looked at is one of
 
     thp_split_page                  a counter of /proc/vmstat
     split of order 4                a statistic of a page size
     frames NODE PAGE                the subpages of a split page that still have its frames
-    queue NODE after odd passes     the queue; each pass turns it around (E), so an even number of them shows nothing, and the
-                                    script is run with its last command once more
+    queue NODE after odd passes     the queue; an even number of passes shows nothing, so the last command is run once more (E)
 """
 
 from __future__ import annotations
@@ -25,8 +22,8 @@ from ..common.files import PMD_ORDER
 from ..common.script import Script, read_script
 from ..common.subpages import set_text
 from ..common.text import escape, text_lines
-from .bench import Session
-from .runner import Result, RunComparer, Runner
+from .bench import Bench
+from .runner import Result, Runner
 from .states import Observation
 
 FOLDER = Path(__file__).resolve().parent.parent / "letters"
@@ -51,6 +48,9 @@ class Match(enum.Enum):
     UNSEEN = "cannot be seen here"
 
 
+CELLS = {Match.MODEL: "model", Match.LETTER: "letter", Match.UNSEEN: "unseen"}
+
+
 @dataclass(frozen=True)
 class Finding:
     """A letter on this kernel; `text` is what was seen instead, or why nothing can be."""
@@ -62,11 +62,6 @@ class Finding:
     def line(self) -> str:
         """Returns the report, printable."""
         return f"{self.letter}: {self.match.value}" + (f": {escape(self.text)}" if self.text else "")
-
-    def cell(self) -> str:
-        """Returns the cell of a table."""
-        return {Match.MODEL: "model", Match.LETTER: "letter", Match.NEITHER: escape(self.text).replace("|", "/"),
-                Match.UNSEEN: "unseen"}[self.match]
 
 
 @dataclass(frozen=True)
@@ -89,34 +84,27 @@ class LetterScript:
         return Finding(self.letter, Match.NEITHER, f"{self.look} {seen or 'empty'}")
 
 
-def read_letter(letter: str) -> LetterScript:
-    """Reads a letter's script. InputFault where there is none, or its comments are missing."""
-    if not re.fullmatch("[A-Z]", letter):
-        raise InputFault(f"{escape(letter)[:40]} is no letter of a known difference")
-    if letter in ONLY_RECORDINGS:
-        raise InputFault(f"{letter}: only recordings meet it")
-    path = FOLDER / f"{letter}.script"
-    script = read_script(str(path))
-    comments = dict(re.findall("^# (look|model|letter): (.*)$", script.text, re.MULTILINE))
-    if len(comments) != 3:
-        raise InputFault(f"{path} needs the comments look, model and letter")
-    return LetterScript(letter, script, comments["look"], comments["model"], comments["letter"])
-
-
-def letters() -> list[str]:
-    """Returns the letters that have a script."""
-    return sorted(path.stem for path in FOLDER.glob("[A-Z].script"))
+def read_letters() -> list[LetterScript]:
+    """Reads the scripts of linux/letters. InputFault where one lacks its comments."""
+    out = []
+    for path in sorted(FOLDER.glob("[A-Z].script")):
+        script = read_script(str(path))
+        comments = dict(re.findall("^# (look|model|letter): (.*)$", script.text, re.MULTILINE))
+        if len(comments) != 3:
+            raise InputFault(f"{path} needs the comments look, model and letter")
+        out.append(LetterScript(path.stem, script, comments["look"], comments["model"], comments["letter"]))
+    return out
 
 
 def read_look(look: str, observed: Observation) -> str:
     """Returns what a look shows. Unavailable where this kernel doesn't show it."""
     size, frames, queue = _SIZE.fullmatch(look), _FRAMES.fullmatch(look), _QUEUE.fullmatch(look)
+    if frames:
+        return set_text(observed.pages[int(frames[1]), int(frames[2])].mapped)
+    if queue:
+        return _read_queue(observed.queues[int(queue[1])], observed)
     if size:
         value = observed.counts.sizes.get((SizeCounter(size[1]), int(size[2])))
-    elif frames:
-        return set_text(observed.pages[int(frames[1]), int(frames[2])].mapped)
-    elif queue:
-        return _read_queue(observed.queues[int(queue[1])], observed)
     elif look in [counter.value for counter in Counter]:
         value = observed.counts.machine[Counter(look)]
     else:
@@ -142,13 +130,13 @@ Look = Callable[[Script], Observation]
 """Runs a script, and returns what the kernel shows after it. Unavailable where the kernel can't run it."""
 
 
-def look_on(session: Session) -> Look:
-    """Returns the look at the kernel of a session."""
+def look_on(bench: Bench) -> Look:
+    """Returns the look at the running kernel."""
     looks: list[Observation] = []
-    runner = Runner(session.bench, session.program, RunComparer(looks=looks, compares=False))
+    runner = Runner(bench, looks=looks, compares=False)
 
     def look(script: Script) -> Observation:
-        session.bench.renew()
+        bench.renew()
         outcome = runner.run(script)
         if outcome.result is not Result.AGREES:
             raise Unavailable(outcome.text or "the script was not run")
@@ -178,10 +166,11 @@ def find_letter(letter: LetterScript, look: Look) -> Finding:
 
 def find_all(look: Look) -> list[Finding]:
     """Returns how a kernel does each letter, those of recordings last."""
-    found = [find_letter(read_letter(letter), look) for letter in letters()]
+    found = [find_letter(letter, look) for letter in read_letters()]
     return [*found, *(Finding(letter, Match.UNSEEN, "only recordings meet it") for letter in ONLY_RECORDINGS)]
 
 
 def markdown(findings: Sequence[Finding], version: str) -> list[str]:
     """Returns the column of a kernel as a table."""
-    return [f"|Letter|{version}|", "|-|-|", *(f"|{each.letter}|{each.cell()}|" for each in findings)]
+    cells = [f"|{each.letter}|{CELLS.get(each.match, escape(each.text).replace('|', '/'))}|" for each in findings]
+    return [f"|Letter|{version}|", "|-|-|", *cells]

@@ -26,46 +26,40 @@
 #include <sys/uio.h>
 #include <unistd.h>
 
-enum { LINE = STDIN_FILENO, BASE = 4096, LEAST_ORDER = 2, MOST_ORDER = 9, MOST_BYTE = 255, MOST_PINS = 256 };
+enum { LINE = STDIN_FILENO, BASE = 4096, LEAST_ORDER = 2, MOST_ORDER = 9, MOST_BYTE = 255 };
 
 enum word { /* mappers.py has the same order */
     FORK,     /* makes a child that inherits the mapping, but no pin; carries the child's socket, the reply its pidfd */
     ENTER,    /* enters the control group whose file cgroup.procs the message carries */
-    ALLOC,    /* ORDER BYTE: maps an aligned region of one page and touches it (the page is allocated by that fault), then
-                 fills it with BYTE unless that is 0; the reply is the address */
+    ALLOC,    /* ORDER: maps an aligned region of one page and touches it, so that this fault allocates it; the reply is the address */
     UNMAP,    /* FIRST COUNT: drops the mappings of COUNT subpages from FIRST on */
     SPLITPMD, /* splits the PMD entry by a border of two areas inside the page, and joins them again */
     FILL,     /* FIRST COUNT BYTE: writes bytes into COUNT subpages from FIRST on */
     PIN,      /* FIRST: holds a reference on the page by a pipe */
-    UNPIN,    /* drops the newest reference */
-    EXIT,     /* drops everything, replies, and ends */
+    UNPIN,    /* drops one */
 };
 
 struct command {
     int32_t word, operands[3];
 };
-
-static int pins[MOST_PINS], pin_count;
-static unsigned char *page; /* NULL before ALLOC */
+static int ends[2] = { -1, -1 }; /* of a pipe, each of whose bytes holds a reference on the page; made with the first */
+static unsigned char *page;      /* NULL before ALLOC */
 static int subpages;
 
-union control { /* room for one descriptor */
+static union { /* of a message: room for one descriptor */
     struct cmsghdr head;
     char room[CMSG_SPACE(sizeof(int))];
-};
+} control;
 
 /* Sends a reply, with a descriptor unless it is -1. */
 static void reply(int64_t number, int descriptor)
 {
-    union control control = { .room = { 0 } };
     struct iovec part = { &number, sizeof number };
     struct msghdr message = { .msg_iov = &part, .msg_iovlen = 1 };
     if (descriptor >= 0) {
-        message.msg_control = control.room;
-        message.msg_controllen = sizeof control.room;
-        control.head.cmsg_level = SOL_SOCKET;
-        control.head.cmsg_type = SCM_RIGHTS;
-        control.head.cmsg_len = CMSG_LEN(sizeof descriptor);
+        message.msg_control = &control;
+        message.msg_controllen = sizeof control;
+        control.head = (struct cmsghdr){ .cmsg_len = CMSG_LEN(sizeof(int)), .cmsg_level = SOL_SOCKET, .cmsg_type = SCM_RIGHTS };
         memcpy(CMSG_DATA(&control.head), &descriptor, sizeof descriptor);
     }
     if (sendmsg(LINE, &message, MSG_NOSIGNAL) < 0)
@@ -76,10 +70,9 @@ static void reply(int64_t number, int descriptor)
  * Returns whether it is a command in form; exits if the other end is closed. */
 static int receive(struct command *command, int *carried)
 {
-    union control control;
     struct iovec part = { command, sizeof *command };
     struct msghdr message = {
-        .msg_iov = &part, .msg_iovlen = 1, .msg_control = control.room, .msg_controllen = CMSG_LEN(sizeof(int)),
+        .msg_iov = &part, .msg_iovlen = 1, .msg_control = &control, .msg_controllen = CMSG_LEN(sizeof(int)),
     };
     ssize_t got = recvmsg(LINE, &message, MSG_CMSG_CLOEXEC);
     struct cmsghdr *head = CMSG_FIRSTHDR(&message);
@@ -88,20 +81,12 @@ static int receive(struct command *command, int *carried)
         exit(1);
     if (head && head->cmsg_level == SOL_SOCKET && head->cmsg_type == SCM_RIGHTS && head->cmsg_len == CMSG_LEN(sizeof(int)))
         memcpy(carried, CMSG_DATA(head), sizeof *carried);
-    else if (head)
-        return 0;
-    return got == sizeof *command && !(message.msg_flags & (MSG_TRUNC | MSG_CTRUNC));
+    return got == sizeof *command && !(message.msg_flags & (MSG_TRUNC | MSG_CTRUNC)) && (!head || *carried >= 0);
 }
 
-/* Whether a range of subpages is inside the page. */
-static int is_inside(int first, int count)
+static long alloc_page(int order)
 {
-    return page && first >= 0 && count >= 1 && first < subpages && count <= subpages - first;
-}
-
-static long alloc_page(int order, int byte)
-{
-    if (page || order < LEAST_ORDER || order > MOST_ORDER || byte < 0 || byte > MOST_BYTE)
+    if (page || order < LEAST_ORDER || order > MOST_ORDER)
         return -EINVAL;
     size_t size = (size_t)BASE << order;
     /* a hole on each side, so that no other area joins the page's */
@@ -112,71 +97,17 @@ static long alloc_page(int order, int byte)
     if (mprotect(at, size, PROT_READ | PROT_WRITE) || madvise(at, size, MADV_HUGEPAGE))
         return -errno;
     *(volatile unsigned char *)at = 0;
-    if (byte)
-        memset(at, byte, size);
     page = at;
     subpages = 1 << order;
     return (long)page;
 }
 
-static long unmap(int first, int count)
+static long pin(unsigned char *at)
 {
-    if (!is_inside(first, count))
-        return -EINVAL;
-    return madvise(page + (size_t)first * BASE, (size_t)count * BASE, MADV_DONTNEED) ? -errno : 0;
-}
-
-static long split_pmd(void)
-{
-    size_t half = (size_t)subpages * BASE / 2;
-    if (!page)
-        return -EINVAL;
-    return madvise(page, half, MADV_DONTDUMP) || madvise(page, half, MADV_DODUMP) ? -errno : 0;
-}
-
-static long fill(int first, int count, int byte)
-{
-    if (!is_inside(first, count) || byte < 0 || byte > MOST_BYTE)
-        return -EINVAL;
-    memset(page + (size_t)first * BASE, byte, (size_t)count * BASE);
-    return 0;
-}
-
-static long pin(int first)
-{
-    int ends[2];
-    if (!is_inside(first, 1))
-        return -EINVAL;
-    if (pin_count == MOST_PINS)
-        return -ENOSPC;
-    if (pipe2(ends, O_CLOEXEC))
+    struct iovec one = { at, 1 };
+    if (ends[0] < 0 && pipe2(ends, O_CLOEXEC | O_NONBLOCK))
         return -errno;
-    struct iovec one = { page + (size_t)first * BASE, 1 };
-    ssize_t spliced = vmsplice(ends[1], &one, 1, 0);
-    long failed = spliced < 0 ? -errno : spliced == 1 ? 0 : -EIO;
-    close(ends[1]);
-    if (failed)
-        close(ends[0]);
-    else
-        pins[pin_count++] = ends[0];
-    return failed;
-}
-
-/* Reading the pipe's only byte drops its reference. */
-static long unpin(void)
-{
-    char byte;
-    if (pin_count == 0)
-        return -ENOENT;
-    long failed = read(pins[--pin_count], &byte, 1) < 0 ? -errno : 0;
-    close(pins[pin_count]);
-    return failed;
-}
-
-static void drop_pins(void)
-{
-    while (pin_count > 0)
-        close(pins[--pin_count]);
+    return vmsplice(ends[1], &one, 1, SPLICE_F_NONBLOCK) == 1 ? 0 : -errno;
 }
 
 /* Makes a child with a socket of its own. The kernel makes the pidfd together with the child, so it refers to no other
@@ -189,7 +120,9 @@ static void fork_child(int socket)
     if (child == 0) {
         if (dup2(socket, LINE) != LINE)
             _exit(1);
-        drop_pins();
+        close(ends[0]);
+        close(ends[1]);
+        ends[0] = ends[1] = -1;
         return;
     }
     reply(child < 0 ? -errno : 0, pidfd);
@@ -197,55 +130,50 @@ static void fork_child(int socket)
         close(pidfd);
 }
 
-static void end(void)
+/* The address of a range of subpages; NULL where it isn't inside the page. */
+static unsigned char *find_range(int first, int count)
 {
-    drop_pins();
-    if (page)
-        munmap(page, (size_t)subpages * BASE);
-    reply(0, -1);
-    exit(0);
+    int is_inside = page && first >= 0 && count >= 1 && first < subpages && count <= subpages - first;
+    return is_inside ? page + (size_t)first * BASE : NULL;
 }
 
 /* The result of a command, which carries a descriptor or -1. */
-static long run(const struct command *command, int carried)
+static long run(int word, const int32_t *operands, int carried)
 {
-    const int32_t *operands = command->operands;
-    if ((carried >= 0) != (command->word == ENTER))
+    unsigned char *at = find_range(operands[0], word == PIN ? 1 : operands[1]);
+    size_t size = (size_t)operands[1] * BASE, half = (size_t)subpages * BASE / 2;
+    char byte;
+    if ((carried >= 0) != (word == ENTER))
         return -EINVAL;
-    switch (command->word) {
+    switch (word) {
     case ENTER: /* 0 is the writer's own number; the kernel checks the rights of who opened the file */
         return write(carried, "0", 1) == 1 ? 0 : -errno;
     case ALLOC:
-        return alloc_page(operands[0], operands[1]);
+        return alloc_page(operands[0]);
     case UNMAP:
-        return unmap(operands[0], operands[1]);
+        return !at ? -EINVAL : madvise(at, size, MADV_DONTNEED) ? -errno : 0;
     case SPLITPMD:
-        return split_pmd();
+        return !page ? -EINVAL : madvise(page, half, MADV_DONTDUMP) || madvise(page, half, MADV_DODUMP) ? -errno : 0;
     case FILL:
-        return fill(operands[0], operands[1], operands[2]);
+        if (!at || operands[2] < 0 || operands[2] > MOST_BYTE)
+            return -EINVAL;
+        memset(at, operands[2], size);
+        return 0;
     case PIN:
-        return pin(operands[0]);
+        return at ? pin(at) : -EINVAL;
     case UNPIN:
-        return unpin();
-    case EXIT:
-        end();
+        return ends[0] >= 0 && read(ends[0], &byte, 1) == 1 ? 0 : -ENOENT;
     }
     return -EINVAL;
 }
 
-/* Drops every capability for good. */
-static int drop_rights(void)
+int main(void)
 {
     struct __user_cap_header_struct head = { .version = _LINUX_CAPABILITY_VERSION_3 };
     struct __user_cap_data_struct none[_LINUX_CAPABILITY_U32S_3] = { { 0, 0, 0 }, { 0, 0, 0 } };
     struct rlimit no_core = { 0, 0 };
-    return prctl(PR_SET_NO_NEW_PRIVS, 1, 0, 0, 0) || prctl(PR_CAP_AMBIENT, PR_CAP_AMBIENT_CLEAR_ALL, 0, 0, 0) ||
-           syscall(SYS_capset, &head, none) || prctl(PR_SET_DUMPABLE, 0, 0, 0, 0) || setrlimit(RLIMIT_CORE, &no_core);
-}
-
-int main(void)
-{
-    if (drop_rights())
+    if (prctl(PR_SET_NO_NEW_PRIVS, 1, 0, 0, 0) || prctl(PR_CAP_AMBIENT, PR_CAP_AMBIENT_CLEAR_ALL, 0, 0, 0) ||
+        syscall(SYS_capset, &head, none) || prctl(PR_SET_DUMPABLE, 0, 0, 0, 0) || setrlimit(RLIMIT_CORE, &no_core))
         return 2;
     signal(SIGCHLD, SIG_IGN); /* children are reaped by the kernel */
     signal(SIGINT, SIG_IGN);  /* the tool ends its mappers itself */
@@ -255,7 +183,7 @@ int main(void)
         if (is_command && command.word == FORK && carried >= 0)
             fork_child(carried);
         else
-            reply(is_command ? run(&command, carried) : -EINVAL, -1);
+            reply(is_command ? run(command.word, command.operands, carried) : -EINVAL, -1);
         if (carried >= 0)
             close(carried);
     }

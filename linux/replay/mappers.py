@@ -1,8 +1,7 @@
-"""The processes that map a script's pages (mapper.c), and the sockets by which they receive commands.
+"""The processes that map a script's pages (mapper.c), and the sockets without names by which they receive commands.
 
-No socket has a name: the tool makes both ends of each and passes one on, so a reply comes from the process that has
-the other end. A process is known by a pidfd that the kernel makes together with it; its number serves only to open its
-files of /proc, and the pidfd shows afterwards that they are its own.
+A process is known by a pidfd that the kernel makes together with it; its number serves only to open its files of /proc, and
+the pidfd shows afterwards that they are its own.
 """
 
 from __future__ import annotations
@@ -20,7 +19,7 @@ from ..common.keeper import Keeper, process_of
 from ..common.page_files import NumberFile, frame_of_entry
 
 PATIENCE = 20.0  # seconds until a reply
-WORDS = ("fork", "enter", "alloc", "unmap", "splitpmd", "fill", "pin", "unpin", "exit")  # mapper.c has the same order
+WORDS = ("fork", "enter", "alloc", "unmap", "splitpmd", "fill", "pin", "unpin")  # mapper.c has the same order
 COMMAND, REPLY = struct.Struct("<4i"), struct.Struct("<q")
 
 
@@ -28,11 +27,11 @@ class Refusal(RunFailed):
     """A mapping process could not do a command; the text is the command and the kernel's reason."""
 
 
-def has_ended(pidfd: int) -> bool:
-    """Returns whether the process that a pidfd refers to has ended."""
+def has_ended(pidfd: int, seconds: float = 0.0) -> bool:
+    """Returns whether the process that a pidfd refers to has ended, or does so within a time; its mappings and pins are gone then."""
     poll = select.poll()
     poll.register(pidfd, select.POLLIN)
-    return bool(poll.poll(0))
+    return bool(poll.poll(1000 * seconds))
 
 
 def socket_pair() -> tuple[socket.socket, socket.socket]:
@@ -53,8 +52,7 @@ class Mapper:
         self._pagemap: NumberFile | None = None
 
     def request(self, word: str, *operands: int, passed: int | None = None) -> int:
-        """Sends a command, with a descriptor or none, and returns the number of the reply; of `fork`, the descriptor that it
-        carries. Refusal where the process could not do it."""
+        """Returns the number of the reply to a command, or the descriptor that it carries. Refusal: the process could not do it."""
         if self._end is None:
             raise RunFailed("a mapping process has failed before")
         try:
@@ -69,10 +67,10 @@ class Mapper:
                 raise RunFailed("a mapping process sends what is no reply" if data else "a mapping process has ended")
         except BaseException as error:  # a signal, too: the reply to this command must not be taken for the next one's
             self.close()
-            if isinstance(error, socket.timeout):
-                raise RunFailed(f"a mapping process sends no reply for {PATIENCE:.0f} s") from error
             if isinstance(error, OSError):
-                raise RunFailed(f"a mapping process has ended: {error.strerror}") from error
+                is_late = isinstance(error, socket.timeout)
+                problem = f"sends no reply for {PATIENCE:.0f} s" if is_late else f"has ended: {error.strerror}"
+                raise RunFailed(f"a mapping process {problem}") from error
             raise
         if number < 0:
             raise Refusal(f"{' '.join(map(str, (word, *operands)))}: {os.strerror(-number)}")
@@ -80,10 +78,11 @@ class Mapper:
 
     def alloc(self, order: int, fill: int) -> None:
         """Allocates a page and fills it with a byte, unless that is 0."""
-        at = self.request("alloc", order, fill)
-        if not at or at % (BASE << order):
-            raise RunFailed(f"a mapping process maps a page at an address that isn't aligned: {at:#x}")
-        self.at = at
+        self.at = self.request("alloc", order)
+        if not self.at or self.at % (BASE << order):
+            raise RunFailed(f"a mapping process maps a page at an address that isn't aligned: {self.at:#x}")
+        if fill:
+            self.request("fill", 0, 1 << order, fill)
 
     def fork(self) -> Mapper:
         """Makes a child that maps what this one maps, and has none of its pins."""
@@ -101,30 +100,30 @@ class Mapper:
             raise
 
     def enter(self, group: str) -> None:
-        """Moves the process into a control group. It moves itself, so no process number is used that another process
-        may have by then."""
+        """Moves the process into a control group. It moves itself, so no number is used that another process may have by then."""
         with open(f"{group}/cgroup.procs", "wb", 0) as members:
             self.request("enter", passed=members.fileno())
 
-    def frames(self, count: int) -> list[int | None]:
-        """Returns the frame that each of its subpages has, or None where it maps none."""
+    def frames(self, first: int, count: int) -> list[int | None]:
+        """Returns the frames of so many subpages, or None where it maps none."""
         try:
             if self._pagemap is None:
                 self._pagemap = NumberFile(f"/proc/{process_of(self.pidfd)}/pagemap")
                 if has_ended(self.pidfd):
                     self.close()  # its number may be another process's
                     raise RunFailed("a mapping process has ended")
-            return [frame_of_entry(entry) for entry in self._pagemap.at(self.at // BASE, count)]
+            return [frame_of_entry(entry) for entry in self._pagemap.at(self.at // BASE + first, count)]
         except (Unavailable, OSError) as error:
             raise RunFailed(f"a mapping process has ended: {error}") from error
 
-    def exit(self) -> None:
-        """Has the process drop its mappings and end. One that failed before ends without a reply."""
-        try:
-            if self._end:
-                self.request("exit")
-        finally:
-            self.close()
+    def end(self) -> bool:
+        """Ends the process; returns whether its mappings are gone, for which it waits. One that failed before ends by itself."""
+        if self._end is None:
+            return True
+        self._end.close()
+        is_gone = has_ended(self.pidfd, PATIENCE)
+        self.close()
+        return is_gone
 
     def close(self) -> None:
         """Closes the tool's descriptors of the process, which ends it."""
@@ -137,24 +136,11 @@ class Mapper:
             self.pidfd = -1
 
 
-class Mappers:
-    """All of them: forks of one root process, which maps nothing."""
-
-    def __init__(self, keeper: Keeper) -> None:
-        path = helper("mapper")
-        empty: dict[str, str] = {}
-        mine, its = socket_pair()
-        with its:
-            self._process = subprocess.Popen([path], stdin=its.fileno(), stdout=subprocess.DEVNULL,
-                                             stderr=subprocess.DEVNULL, cwd="/", env=empty, start_new_session=True)
-        keeper.own(self._process.pid)
-        self.root = Mapper(mine, os.pidfd_open(self._process.pid))
-
-    def close(self) -> None:
-        """Ends the root process."""
-        self.root.close()
-        try:
-            self._process.wait(PATIENCE)
-        except subprocess.TimeoutExpired:
-            self._process.kill()
-            self._process.wait()
+def start_root(keeper: Keeper) -> Mapper:
+    """Starts the process that maps nothing, whose forks all others are."""
+    mine, its = socket_pair()
+    with its:
+        process = subprocess.Popen([helper("mapper")], stdin=its.fileno(), stdout=subprocess.DEVNULL, stderr=subprocess.DEVNULL,
+                                   cwd="/", env=dict[str, str](), start_new_session=True)
+    keeper.own(process.pid)
+    return Mapper(mine, os.pidfd_open(process.pid))

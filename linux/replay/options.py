@@ -5,57 +5,38 @@ Prints a line for each script: `agrees`, `agrees (but for A F)`, `differs: WHAT,
 machine differ, and other programs move them. A script that differs is made small by further runs.
 
 Status 0: nothing differs; 1: something does; 2: an error in the words or files; 3: the run can't continue; 4: nothing
-differs, but something is inconclusive; 75: another tool runs; 77: nothing could be compared. With --tap those of
-kselftest: 0 pass, 1 fail or error, 4 skip. With --fingerprint 1: this kernel does something as neither side.
+differs, but something is inconclusive; 75: another tool runs; 77: nothing could be compared. With --fingerprint 1: this
+kernel does something as neither side.
 """
 
 from __future__ import annotations
 
 import argparse
 from collections.abc import Iterator, Sequence
-from functools import lru_cache
 from itertools import chain
 
-from ..common.arguments import OneLineParser, seconds, tool_parser, whole, wholes
+from ..common.arguments import seconds, tool_parser, whole, wholes
 from ..common.errors import InputFault
 from ..common.files import PMD_ORDER, read_input
 from ..common.script import LEAST_ORDER, MOST_NODES, Script, read_script
 from ..common.text import escape, text_lines
-from .generator import Shape, scripts
+from .generator import MOST_QUEUE, Shape, scripts
 from .shrinking import SECONDS
 
 NAME = "thpreplay"
 LEAST_LENGTH, MOST_LENGTH = 8, 10000  # commands of a random script
-MOST_SCRIPTS = 10 ** 9
-MOST_SEED = 10 ** 18 - 1
+MOST_SCRIPTS, MOST_SEED = 10 ** 9, 10 ** 18 - 1
 MOST_SEEDS = 1 << 18  # bytes of a fixed set
 MOST_SHRINKING = 3600.0  # seconds
 SETTINGS = ("nodes", "orders", "underused", "blocks")  # of scripts that are files
 
 
-def add_shape(parser: argparse.ArgumentParser) -> None:
-    """Adds the options from which random scripts are drawn."""
-    parser.add_argument("--node-counts", default="1,1,1,2,4", metavar="LIST", type=wholes(1, MOST_NODES),
-                        help="random scripts draw from it")
-    parser.add_argument("--page-orders", default="9,9,9,2,3,4,5,6,7,8", metavar="LIST", type=wholes(LEAST_ORDER, PMD_ORDER),
-                        help="and from it")
-    parser.add_argument("--thresholds", default="off", metavar="LIST", type=wholes(0, (1 << PMD_ORDER) - 1, "off"),
-                        help="off or numbers, drawn for each script")
-    parser.add_argument("--length", type=whole(0, MOST_LENGTH), default=40,
-                        help="most commands of a random script, at least 8")
-
-
-def add_common(parser: argparse.ArgumentParser) -> None:
-    """Adds the options that thpreplay and thpbisect share."""
-    parser.add_argument("--program", metavar="PATH", help="the thpsplit to compare with")
-    parser.add_argument("--no-memory", action="store_true", help="leave kernel memory, and so the queues, unread")
-    parser.add_argument("--wait", action="store_true", help="wait until another tool has ended")
-
-
 def parse_words(given: Sequence[str] | None = None) -> argparse.Namespace:
     """Returns the options of a command line, by default this process's own."""
     parser = tool_parser(NAME, __doc__)
-    add_common(parser)
+    parser.add_argument("--program", metavar="PATH", help="the thpsplit to compare with")
+    parser.add_argument("--no-memory", action="store_true", help="leave kernel memory, and so the queues, unread")
+    parser.add_argument("--wait", action="store_true", help="wait until another tool has ended")
     parser.add_argument("script", nargs="*",
                         help="scripts (-: standard input); their settings are in the first line or in SCRIPT.args")
     for name in SETTINGS:
@@ -63,7 +44,16 @@ def parse_words(given: Sequence[str] | None = None) -> argparse.Namespace:
     parser.add_argument("--random", type=whole(0, MOST_SCRIPTS), default=0, metavar="COUNT",
                         help="run COUNT random scripts")
     parser.add_argument("--seed", type=whole(0, MOST_SEED), default=1)
-    add_shape(parser)
+    parser.add_argument("--node-counts", default="1,1,1,2,4", metavar="LIST", type=wholes(1, MOST_NODES),
+                        help="random scripts draw from it")
+    parser.add_argument("--page-orders", default="9,9,9,2,3,4,5,6,7,8", metavar="LIST", type=wholes(LEAST_ORDER, PMD_ORDER),
+                        help="and from it")
+    parser.add_argument("--thresholds", default="off", metavar="LIST", type=wholes(0, (1 << PMD_ORDER) - 1, "off"),
+                        help="off or numbers, drawn for each script")
+    parser.add_argument("--queue-lengths", default="1,2,3,4,6,8,12,16,24,32,64,200", metavar="LIST", type=wholes(0, MOST_QUEUE),
+                        help="the lengths to which queues are filled, drawn for each node")
+    parser.add_argument("--length", type=whole(0, MOST_LENGTH), default=40,
+                        help="most commands of a random script besides those that fill queues, at least 8")
     parser.add_argument("--seeds", metavar="FILE", help="run a fixed set: a line a seed, with options of random scripts "
                         "after it; # begins a comment")
     parser.add_argument("--fill", choices=("data", "zeros"), help="what new pages hold; else zeros by thresholds")
@@ -77,9 +67,7 @@ def parse_words(given: Sequence[str] | None = None) -> argparse.Namespace:
     parser.add_argument("--fingerprint", action="store_true",
                         help="print how this kernel does each known difference, by the scripts of linux/letters")
     parser.add_argument("--markdown", action="store_true", help="the fingerprint as a table")
-    form_of_output = parser.add_mutually_exclusive_group()
-    form_of_output.add_argument("--tap", action="store_true", help="print KTAP version 1; statuses as kselftest has them")
-    form_of_output.add_argument("--json", action="store_true", help="print JSON, a document a line")
+    parser.add_argument("--json", action="store_true", help="print JSON, a document a line")
     parser.add_argument("--undo", action="store_true", help="put back what a killed run left; nothing is run")
     parser.add_argument("-v", "--verbose", action="store_true", help="print each command")
     parser.add_argument("-q", "--quiet", action="store_true",
@@ -89,13 +77,12 @@ def parse_words(given: Sequence[str] | None = None) -> argparse.Namespace:
 
 def parse_shape(options: argparse.Namespace) -> Shape:
     """Returns what random scripts are drawn from."""
-    return Shape(options.node_counts, options.page_orders, options.thresholds, max(options.length, LEAST_LENGTH),
-                 getattr(options, "exact_scans", False))
+    length = max(options.length, LEAST_LENGTH)
+    return Shape(options.node_counts, options.page_orders, options.thresholds, length, options.exact_scans, options.queue_lengths)
 
 
 def list_scripts(options: argparse.Namespace) -> tuple[int, Iterator[Script]]:
-    """Returns how many scripts a command line names, and the scripts, made one by one: the files', all of them read, those of
-    the seeds, then the random ones."""
+    """Returns how many scripts a command line names, and the scripts, made one by one: files, seeds, then random ones."""
     given = [f"--{name}={getattr(options, name)}" for name in SETTINGS if getattr(options, name) is not None]
     named = [read_script(path, given) for path in options.script]
     fixed = read_seeds(options.seeds) if options.seeds else []
@@ -105,20 +92,19 @@ def list_scripts(options: argparse.Namespace) -> tuple[int, Iterator[Script]]:
 
 
 def read_seeds(path: str) -> list[tuple[int, Shape]]:
-    """Returns a fixed set: the seed and the shape of each line, whose first random script is meant. InputFault names the line
-    that has others."""
-    parser = OneLineParser(prog="seeds", add_help=False, allow_abbrev=False)
-    add_shape(parser)
-    parse_options = lru_cache(maxsize=None)(lambda *words: parse_shape(parser.parse_args(words)))
-    parse_seed, out = whole(0, MOST_SEED), []
+    """Returns a fixed set: the seed and the shape of each line, whose first random script is meant."""
     try:
         lines = text_lines(read_input(path, MOST_SEEDS).decode("ascii"))
     except UnicodeDecodeError as error:
         raise InputFault(f"{escape(path)} is no list of seeds: it isn't ASCII") from error
+    out = []
     for place, line in enumerate(lines, 1):
-        seed, *words = line.partition("#")[0].split() or [""]
+        words = line.partition("#")[0].split()
         try:
-            out += [(parse_seed(seed), parse_options(*words))] if seed else []
-        except (InputFault, argparse.ArgumentTypeError) as fault:
+            options = parse_words(["--seed", *words]) if words else None
+        except InputFault as fault:
             raise InputFault(f"{escape(path)}, line {place}: {fault}") from fault
+        if options and options.script:
+            raise InputFault(f"{escape(path)}, line {place}: one seed, and options of random scripts")
+        out += [(options.seed, parse_shape(options))] if options else []
     return out

@@ -1,14 +1,4 @@
-"""Runs a script's commands on the running kernel, by processes that map its pages.
-
-    alloc             a fork of the node's server touches an aligned region with MADV_HUGEPAGE
-    mapwhole          a fork of a process that maps the page whole
-    map               a fork that splits its PMD entry and drops the other subpages
-    unmap, unmapwhole MADV_DONTNEED in a process that maps the range
-    splitpmd          a border of two areas inside the page (MADV_DONTDUMP of half), taken away again
-    pin, unpin        vmsplice into a pipe, read of its byte
-    write, zero       memset
-    scan              reclaim in the node's control group; exactly so many pages by the shrinker's file
-"""
+"""Runs a script's commands on the running kernel, by processes that map its pages (docs/LINUX.md: what each command is there)."""
 
 from __future__ import annotations
 
@@ -28,6 +18,8 @@ from .mappers import Mapper, Refusal
 from .states import NodeState, Observation, PageName, PageObservation, PageState
 
 DATA = 90  # the byte that subpages with data are filled with
+NOT_DONE = {"close": "close: a kernel's queue isn't closed", **dict.fromkeys(
+    ("take", "splitnext", "putback"), "take, splitnext and putback by themselves: the kernel does them as one")}
 
 
 @dataclass
@@ -51,8 +43,8 @@ class KernelPage:
         raise Unsupported(reason)
 
     def pieces(self, bits: int, whole: bool) -> list[tuple[Mapper, int, int]]:
-        """Processes with a first and a count that cover these subpages together, by entries of their own where some do, by a PMD
-        entry only if `whole`; none where nobody maps one of the subpages."""
+        """Returns processes with a first and a count that cover these subpages together, by PTEs where some do, by a PMD entry only
+        if `whole`; none where nobody maps one of the subpages."""
         found = [mapper for mapper in sorted(self.mappers, key=lambda mapper: mapper.whole) if whole or not mapper.whole]
         out = []
         while bits:
@@ -67,9 +59,8 @@ class KernelPage:
 
 
 class KernelPages:
-    """One script's pages on a bench. `fill`: the byte that new pages are filled with; 0: they stay zero-filled. `drops_zeros`:
-    this kernel gives mapped zero-filled subpages back at any split (B). `scans_exactly`: a scan takes so many pages as it
-    specifies, in one pass."""
+    """One script's pages on a bench, filled with the byte `fill`. `drops_zeros`: this kernel gives mapped zero-filled subpages back
+    at any split (B). `scans_exactly`: a scan takes so many pages as it specifies, in one pass."""
 
     def __init__(self, bench: Bench, options: Options, fill: int) -> None:
         self._bench, self._fill = bench, fill
@@ -84,24 +75,20 @@ class KernelPages:
     def run_command(self, expected: ExpectedAnswer, state: NodeState) -> None:
         """Runs a command that wasn't refused; the node's state is that before it. Unsupported: nothing was done."""
         word, operands = expected.words[0], [int(text) for text in expected.words[2:]]
+        if word in NOT_DONE:
+            raise Unsupported(NOT_DONE[word])
         try:
             if word in PAGE_COMMANDS:
                 getattr(self, f"_{word}")(self._pages[expected.node][operands[0]], state.pages[operands[0]], *operands[1:])
-            else:
+            elif word != "count":
                 getattr(self, f"_{word}")(expected.node, state, *operands)
         except Refusal as refusal:
             raise Unsupported(str(refusal)) from refusal
 
     def close(self) -> None:
-        """Ends the script's processes; their pages go with them. Where one fails, all others end nevertheless."""
-        failure: RunFailed | None = None
-        for mapper in self._started:
-            try:
-                mapper.exit()
-            except RunFailed as error:
-                failure = error
-        if failure:
-            raise failure
+        """Ends the script's processes; their pages go with them."""
+        if not all([mapper.end() for mapper in self._started]):
+            raise RunFailed("a mapping process doesn't end")
 
     # what the kernel shows
 
@@ -117,13 +104,16 @@ class KernelPages:
         return Observation(Counts(machine, since.sizes), pages, queues, numa_nodes)
 
     def _look_at(self, held: KernelPage, is_split: bool) -> PageObservation:
-        frames, mapped = self._bench.frames, 0
-        for mapper in held.mappers:
-            if is_split and mapper.mapped:
-                for i, frame in enumerate(mapper.frames(held.subpages)):
-                    mapped |= (frame == held.frame + i) << i
-        whole = 0 if is_split else frames.whole(held.frame, held.subpages)
-        return PageObservation(whole, frames.counts(held.frame, held.subpages), mapped)
+        whole = mapped = 0
+        if not is_split:
+            head, *tails = self._bench.frames.flags(held.frame, held.subpages)
+            whole = bool(head & PageFlag.COMPOUND_HEAD) + sum(map(tails.count, {tail for tail in tails if tail & PageFlag.COMPOUND_TAIL}))
+        for mapper in held.mappers if is_split else []:
+            for first, count in runs(mapper.mapped):
+                found, own = mapper.frames(first, count), [*range(held.frame + first, held.frame + first + count)]
+                same = (1 << at for at, (frame, wanted) in enumerate(zip(found, own), first) if frame == wanted)
+                mapped |= bits_of(first, count) if found == own else sum(same)
+        return PageObservation(whole, self._bench.frames.counts(held.frame, held.subpages), mapped)
 
     def _queue(self, node: int, state: NodeState, numa_nodes: dict[PageName, int]) -> list[int] | None:
         """Returns a node's queue as page numbers, by NUMA node; puts the NUMA nodes other than 0 into `numa_nodes`."""
@@ -143,7 +133,7 @@ class KernelPages:
     def _alloc(self, node: int, state: NodeState) -> None:
         mapper = self._fork(self._bench.servers[node].process)
         mapper.alloc(state.order, self._fill)
-        frames = mapper.frames(1 << state.order)
+        frames = mapper.frames(0, 1 << state.order)
         first = frames[0] or 0
         head, tail = self._bench.frames.flags(first, 2)
         is_compound = head & PageFlag.COMPOUND_HEAD and tail & PageFlag.COMPOUND_TAIL
@@ -153,9 +143,8 @@ class KernelPages:
         self._pages[node].append(KernelPage([mapper], state.order, first))
 
     def _fork(self, of: Mapper) -> Mapper:
-        child = of.fork()
-        self._started.append(child)
-        return child
+        self._started.append(of.fork())
+        return self._started[-1]
 
     def _mapwhole(self, page: KernelPage, _before: PageState) -> None:
         source = page.mapper(lambda mapper: mapper.whole, "mapwhole where no PMD entry is left to be copied")
@@ -247,14 +236,3 @@ class KernelPages:
         """Notes that a page was split: all its mappings are by PTEs."""
         for mapper in self._pages[node][number].mappers:
             mapper.whole = False
-
-    def _count(self, _node: int, _state: NodeState) -> None:
-        pass
-
-    def _take(self, *_operands: object) -> None:
-        raise Unsupported("take, splitnext and putback by themselves: the kernel does them as one")
-
-    _splitnext = _putback = _take
-
-    def _close(self, *_operands: object) -> None:
-        raise Unsupported("close: a kernel's queue isn't closed")

@@ -4,12 +4,11 @@ from __future__ import annotations
 
 import enum
 from collections import Counter as Tallies
-from dataclasses import dataclass, field
-from typing import Callable, Sequence
+from collections.abc import Callable, Sequence
+from dataclasses import dataclass
 
 from ..common.counters import CounterWatch
 from ..common.errors import InputFault
-from ..common.program import Program
 from ..common.script import Script
 from ..common.text import escape
 from .bench import Bench
@@ -55,66 +54,15 @@ def print_line(line: str) -> None:
     print(line, flush=True)
 
 
-@dataclass
-class RunComparer:
-    """Compares runs, or only looks. `sums` counts commands and comparisons; `report` is called with each command; `looks`
-    keeps each look."""
-
-    sums: Tallies[str] = field(default_factory=Tallies)
-    report: Callable[[str], None] | None = None
-    looks: list[Observation] | None = None
-    compares: bool = True
-
-    def compare_run(self, expected_run: ExpectedRun, zero_filled: bool, kernel: KernelPages) -> str:
-        """Returns the letters of the known differences that were met. Difference names the command after which the own
-        state is another; CounterDifference, raised at the end, that of a counter where nothing else differs."""
-        options = expected_run.options
-        nodes = zip(options.orders, options.underused)
-        states = [NodeState(order, switch, zero_filled, kernel.drops_zeros) for order, switch in nodes]
-        comparison = Comparison(states, expected_run.known, expected_run.small, kernel.scans_exactly)
-        try:
-            self._look(kernel, states, comparison)
-            for expected in expected_run.answers:
-                comparison.command = expected
-                if self.report:
-                    self.report(f"  {escape(comparison.where)} -> {escape(expected.answer)}")
-                self._run_command(expected, states, kernel)
-                self._look(kernel, states, comparison)
-        except Difference as difference:
-            raise comparison.placed(difference) from difference
-        finally:
-            self.sums.update(comparison.sums)
-        if comparison.counters:
-            raise comparison.counters
-        return join_letters(comparison.known)
-
-    def _look(self, kernel: KernelPages, states: Sequence[NodeState], comparison: Comparison) -> None:
-        observed = kernel.look(states)
-        if self.looks is not None:
-            self.looks.append(observed)
-        if self.compares:
-            comparison.compare(observed)
-
-    def _run_command(self, expected: ExpectedAnswer, states: Sequence[NodeState], kernel: KernelPages) -> None:
-        """Runs one command, and applies its events to its node."""
-        state = states[expected.node]
-        if not expected.is_refused:
-            kernel.run_command(expected, state)
-        for event in expected.events:
-            try:
-                state.apply(event)
-            except InputFault as fault:
-                raise Difference(f"thpsplit gives {fault}") from fault
-            if event.word == "split" and event.page is not None:
-                kernel.note_split(expected.node, event.page)
-        self.sums["commands refused" if expected.is_refused else f"commands done: {expected.words[0]}"] += 1
-
-
 class Runner:
-    """Runs scripts on a bench beside a program."""
+    """Runs scripts on a bench, and compares, or only looks. `sums` counts commands and comparisons; `report` is called with each
+    command; `looks` keeps each look at the last run."""
 
-    def __init__(self, bench: Bench, program: Program, comparer: RunComparer) -> None:
-        self._bench, self._program, self._comparer = bench, program, comparer
+    def __init__(
+        self, bench: Bench, report: Callable[[str], None] | None = None, looks: list[Observation] | None = None, compares: bool = True
+    ) -> None:
+        self._bench, self._report, self._looks, self._compares = bench, report, looks, compares
+        self.sums: Tallies[str] = Tallies()
 
     def run(self, script: Script, zero_filled: bool | None = None) -> Outcome:
         """Runs one script. `zero_filled`: whether new pages stay so; by default where some node splits underused
@@ -124,8 +72,8 @@ class Runner:
         watch = CounterWatch(script.options.orders)
         differences: list[Difference] = []
         while len(differences) < TRIES:
-            if self._comparer.looks is not None:
-                self._comparer.looks.clear()
+            if self._looks is not None:
+                self._looks.clear()
             if differences:
                 watch.watch_once()
             try:
@@ -141,13 +89,53 @@ class Runner:
         return judge_tries(differences, watch)
 
     def _run_once(self, script: Script, zero_filled: bool) -> str:
-        expected_run = expect_run(script, self._program)
+        expected_run = expect_run(script, self._bench.program, self._bench.unmaps_singly)
         self._bench.prepare(script.options)
         pages = KernelPages(self._bench, script.options, 0 if zero_filled else DATA)
         try:
-            return self._comparer.compare_run(expected_run, zero_filled, pages)
+            return self.compare_run(expected_run, zero_filled, pages)
         finally:
             pages.close()
+
+    def compare_run(self, expected_run: ExpectedRun, zero_filled: bool, kernel: KernelPages) -> str:
+        """Returns the letters of the known differences that were met. Difference names the command after which the own
+        state is another; CounterDifference, raised at the end, that of a counter where nothing else differs."""
+        options = expected_run.options
+        nodes = zip(options.orders, options.underused)
+        states = [NodeState(order, switch, zero_filled, kernel.drops_zeros) for order, switch in nodes]
+        comparison = Comparison(states, expected_run.known, expected_run.small, kernel.scans_exactly)
+        try:
+            self._look(kernel, states, comparison)
+            for comparison.command in expected_run.answers:
+                if self._report:
+                    self._report(f"  {escape(comparison.where)} -> {escape(comparison.command.answer)}")
+                self._run_command(kernel, comparison, states[comparison.command.node], comparison.command)
+                self._look(kernel, states, comparison)
+        finally:
+            self.sums.update(comparison.sums)
+        if comparison.counters:
+            raise comparison.counters
+        return join_letters(comparison.known)
+
+    def _look(self, kernel: KernelPages, states: Sequence[NodeState], comparison: Comparison) -> None:
+        observed = kernel.look(states)
+        if self._looks is not None:
+            self._looks.append(observed)
+        if self._compares:
+            comparison.compare(observed)
+
+    def _run_command(self, kernel: KernelPages, comparison: Comparison, state: NodeState, expected: ExpectedAnswer) -> None:
+        """Runs one command, and applies its events to its node."""
+        if not expected.is_refused:
+            kernel.run_command(expected, state)
+        for event in expected.events:
+            try:
+                state.apply(event)
+            except InputFault as fault:
+                raise comparison.difference(f"thpsplit gives {fault}", "an event") from fault
+            if event.word == "split" and event.page is not None:
+                kernel.note_split(expected.node, event.page)
+        self.sums["commands refused" if expected.is_refused else f"commands done: {expected.words[0]}"] += 1
 
 
 def judge_tries(differences: Sequence[Difference], watch: CounterWatch) -> Outcome:
@@ -160,7 +148,7 @@ def judge_tries(differences: Sequence[Difference], watch: CounterWatch) -> Outco
         return differs
     if watch.moved or not watch.watch_until(LAST_WINDOWS):
         reason = f"other programs move {', '.join(sorted(watch.moved))}"
-    elif len({each.place for each in by_counter}) > 1:
+    elif len({(each.kind, each.command) for each in by_counter}) > 1:
         reason = "each try differs in another counter or at another command"
     else:
         return differs

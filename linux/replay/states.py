@@ -1,9 +1,5 @@
-"""What a script is compared by: what the kernel shows after a command, the known differences between kernel and model by
-letter (docs/LINUX.md names the kernel's function for each), and a node by its journal: map counts, frames, the queue, and
-what is counted in the model's way and in the kernel's.
-
-The model's rules are those of docs/MODEL.md; the kernel's are described where a field needs them (mm/rmap.c and
-mm/huge_memory.c of the kernel).
+"""What a script is compared by: what the kernel shows after a command, the known differences by letter (docs/LINUX.md), and a
+node by its journal: map counts, frames, the queue, and what is counted in the model's way and in the kernel's.
 """
 
 from __future__ import annotations
@@ -22,17 +18,8 @@ from ..common.subpages import bits_of
 PageName = tuple[int, int]  # node, page
 
 
-class KnownDifference(enum.Enum):
-    """Each is worked out beforehand for each script; a kernel that does anything else differs."""
-
-    A = "counts a page as deferred when it first becomes partly mapped, though it was queued since its fault"
-    B = "gives mapped zero-filled subpages back at any split, the switch being off"
-    C = "queues only pages of PMD size at their fault"
-    D = "takes the threshold 511 as never"
-    E = "puts pages back in reverse order, the newest tried first"
-    F = "makes several passes in one reclaim, so pinned pages fail several times"
-    G = "counts an underused page as deferred when its own split takes PTE mappings away"
-    W = "has thp_split_page and its fellows for PMD size only; below, the statistics of the size"
+KnownDifference = enum.Enum("KnownDifference", "A B C D E F G P W")
+"""Each is worked out beforehand for each script (docs/LINUX.md); a kernel that does anything else differs."""
 
 
 def join_letters(known: Iterable[KnownDifference]) -> str:
@@ -42,25 +29,21 @@ def join_letters(known: Iterable[KnownDifference]) -> str:
 
 @dataclass(frozen=True)
 class PageObservation:
-    """A live page: its frames that are parts of one huge page, the map count of each subpage's frame, and (once it is
-    split) the subpages at which the script's processes map those frames."""
+    """A live page."""
 
-    whole: int
-    counts: tuple[int, ...]
-    mapped: int
+    whole: int  # frames that are parts of one huge page
+    counts: tuple[int, ...]  # of each subpage's frame
+    mapped: int  # once it is split: the subpages at which the script's processes map its frames
 
 
 @dataclass(frozen=True)
 class Observation:
-    """The kernel at one moment. Counters since the script's start, the PMD splits that only served to map less than a whole
-    page taken off. A queue lists page numbers, oldest first, and a frame of no page as its negative; None: it wasn't read.
-    Where the kernel has a queue for each NUMA node, they are joined in the order of these nodes; `numa_nodes` has the NUMA
-    node of each queued page that isn't on node 0."""
+    """The kernel at one moment."""
 
-    counts: Counts
+    counts: Counts  # since the script's start, without the PMD splits that only served to map less than a whole page
     pages: dict[PageName, PageObservation]
-    queues: list[list[int] | None]
-    numa_nodes: dict[PageName, int] = field(default_factory=dict)
+    queues: list[list[int] | None]  # page numbers, oldest first, a frame of no page as its negative; None: it wasn't read
+    numa_nodes: dict[PageName, int] = field(default_factory=dict)  # of queued pages that aren't on node 0; a queue is in their order
 
     def line(self) -> str:
         """Returns the look as a line of JSON."""
@@ -109,11 +92,11 @@ class PageState:
 
     def totals(self) -> tuple[int, ...]:
         """Returns the map count of each subpage."""
-        return tuple(self.whole + own for own in self.own)
+        return tuple([self.whole + own for own in self.own] if any(self.own) else [self.whole] * len(self.own))
 
     def used_subpages(self) -> int:
         """Returns the subpages that are mapped."""
-        return self.every if self.whole else sum(1 << i for i, own in enumerate(self.own) if own)
+        return self.every if self.whole else int("".join("01"[own > 0] for own in reversed(self.own)), 2)
 
     def change(self, event: Event) -> None:
         """Applies an event to the mappings and the content."""
@@ -144,6 +127,14 @@ class NodeState:
     pages: list[PageState] = field(default_factory=list)
     queue: list[int] = field(default_factory=list)
     event_counts: EventCounts = field(default_factory=EventCounts)
+
+    def empties_at_once(self, event: Event) -> bool:
+        """Returns whether an event removes all mappings, by PTEs, of a page that wasn't partly mapped."""
+        if event.word != "unmapsub" or event.page is None or event.page >= len(self.pages):
+            return False
+        page = self.pages[event.page]
+        is_mapped_once = not page.whole and {*page.own} == {1}
+        return is_mapped_once and event.count == len(page.own) and not page.partly and not page.split
 
     def apply(self, event: Event) -> None:
         """Applies one event of the journal. InputFault where it can't have happened here."""

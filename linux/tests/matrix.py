@@ -2,26 +2,20 @@
 
 from __future__ import annotations
 
+from itertools import dropwhile, takewhile
 from pathlib import Path
-from typing import Dict, List, Optional
 
 DOCUMENT = Path(__file__).resolve().parent.parent.parent / "docs/LINUX.md"
-HEAD = "|Letter|"
 
 
-def columns_of(text: str) -> Dict[str, List[str]]:
+def columns_of(text: str) -> dict[str, list[str]]:
     """Returns the columns of the first matrix in a text by the kernels' releases, each cell with its letter."""
-    lines = text.split("\n")
-    start = next((at for at, line in enumerate(lines) if line.startswith(HEAD)), len(lines))
-    rows: List[List[str]] = []
-    for line in lines[start:]:
-        if not line.startswith("|"):
-            break
-        rows.append(line.strip("|").split("|"))
+    lines = dropwhile(lambda line: not line.startswith("|Letter|"), text.split("\n"))
+    rows = [line.strip("|").split("|") for line in takewhile(lambda line: line.startswith("|"), lines)]
     return {release: [f"{row[0]} {row[at]}" for row in rows[2:]] for at, release in enumerate(rows[0]) if at} if rows else {}
 
 
-def find_wrong(table: str, document: str) -> Optional[str]:
+def find_wrong(table: str, document: str) -> str | None:
     """Returns what is wrong where the document has another column of a kernel than the table of the tool, or nothing."""
     documented = columns_of(document)
     for release, cells in columns_of(table).items():

@@ -8,7 +8,8 @@
 from __future__ import annotations
 
 from collections import Counter as Tallies
-from typing import Dict, List, Sequence, Tuple
+from collections.abc import Sequence
+from unittest.mock import Mock
 
 from ..common.counters import Counter, Counts, SizeCounter
 from ..common.errors import InputFault
@@ -17,7 +18,7 @@ from ..common.program import Program
 from ..common.script import Script
 from ..replay.comparison import Difference
 from ..replay.expected_answers import NEVER, ExpectedAnswer, Unsupported, expect_run
-from ..replay.runner import Outcome, Result, RunComparer
+from ..replay.runner import Outcome, Result, Runner
 from ..replay.states import NodeState, Observation, PageObservation
 from .plain_program import report_of
 from .stored_kernel import StoredKernel
@@ -36,14 +37,14 @@ class InProcessProgram(Program):
 class ModelKernel:
     """The nodes of a script, and the kernel's queues and failed splits."""
 
-    def __init__(self, script: Script, zero_filled: bool) -> None:
-        self._expected = expect_run(script, InProcessProgram())
+    def __init__(self, script: Script, zero_filled: bool, unmaps_singly: bool = False) -> None:
+        self._expected = expect_run(script, InProcessProgram(), unmaps_singly)
         options = self._expected.options
         self._states = [NodeState(order, switch, zero_filled) for order, switch in zip(options.orders, options.underused)]
-        self._queues: List[List[int]] = [[] for _ in self._states]
-        self._failed: Dict[int, int] = Tallies()
+        self._queues: list[list[int]] = [[] for _ in self._states]
+        self._failed: dict[int, int] = Tallies()
 
-    def looks(self) -> List[Observation]:
+    def looks(self) -> list[Observation]:
         """Returns what it shows before all commands, and after each."""
         out = [self._look()]
         for expected in self._expected.answers:
@@ -86,24 +87,23 @@ class ModelKernel:
             sizes[SizeCounter.SPLIT, order] = self._sum("split", order)
             sizes[SizeCounter.SPLIT_FAILED, order] = self._failed[order]
             sizes[SizeCounter.DEFERRED, order] = deferred
-        pages: Dict[Tuple[int, int], PageObservation] = {}
+        pages = {}
         for node, state in enumerate(self._states):
             for number, page in enumerate(state.pages):
+                pages[node, number] = PageObservation(len(page.own) if page.live else 0, page.totals(), 0)
                 if page.live and page.split:
                     mapped = page.held & ~page.dropped_zero
                     counts = tuple(count if mapped >> at & 1 else 0 for at, count in enumerate(page.totals()))
                     pages[node, number] = PageObservation(0, counts, mapped)
-                else:
-                    pages[node, number] = PageObservation(len(page.own) if page.live else 0, page.totals(), 0)
         return Observation(Counts({**machine}, {**sizes}), pages, [list(queue) for queue in self._queues])
 
 
-def run_on_model(script: Script, program: Program) -> Outcome:
+def run_on_model(script: Script, program: Program, scans_exactly: bool = False) -> Outcome:
     """Runs a script once, as Runner does on the running kernel."""
     zero_filled = any(switch is not None for switch in script.options.underused)
     try:
         looks = ModelKernel(script, zero_filled).looks()
-        known = RunComparer().compare_run(expect_run(script, program), zero_filled, StoredKernel(looks))
+        known = Runner(Mock()).compare_run(expect_run(script, program), zero_filled, StoredKernel(looks, scans_exactly))
     except Difference as difference:
         return Outcome(Result.DIFFERS, "", str(difference), difference.kind, difference.command)
     except (KeyError, Unsupported, InputFault) as error:  # KeyError: a page that the program alone has

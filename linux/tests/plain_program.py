@@ -14,8 +14,8 @@ from __future__ import annotations
 import os
 import shlex
 import sys
+from collections.abc import Callable
 from pathlib import Path
-from typing import Callable, Dict, List, Set, Tuple, Type, Union
 
 ROOT = Path(__file__).resolve().parent.parent.parent
 sys.path[:0] = [str(ROOT / "tests"), str(ROOT)]
@@ -57,14 +57,14 @@ class SplitsPinned(Node):
 
 
 class ForgetsFree(Node):
-    def lost(self, caller: int, number: int, held: Set[int], used: Set[int], *words: Union[int, str]) -> str:
+    def lost(self, caller: int, number: int, held: set[int], used: set[int], *words: int | str) -> str:
         """Reports that a page stays though its last unmap frees it."""
         answer = super().lost(caller, number, held, used, *words)
         self.journal[-1] = self.journal[-1].replace(" freed ", " stays ")
         return answer.replace("freed ", "stays ")
 
 
-BUGS: Dict[str, Type[Node]] = {
+BUGS: dict[str, type[Node]] = {
     "unmap-short": UnmapShort, "back-at-head": BackAtHead, "splits-pinned": SplitsPinned, "forgets-free": ForgetsFree,
 }
 
@@ -78,30 +78,23 @@ def inject_bug(bug: str, folder: str) -> str:
     return path
 
 
-def run_of(text: str, words: List[str], bug: str) -> Run:
-    options = options_of(words)
+def report_of(kind: str, text: str, words: list[str], bug: str) -> str:
+    """Returns a report on a script: totals, answers or journal."""
+    options, node_type = options_of(words), BUGS.get(bug, Node)
     run = Run([(options.blocks, order, switch) for order, switch in zip(options.orders, options.underused)])
-    kind = BUGS.get(bug, Node)
-    run.nodes = [kind(node.blocks, node.order, node.underused) for node in run.nodes]
-    RANGE_CALLS["unmap"] = kind.unmap_sub
-    sections: List[Tuple[int, List[str]]] = []
+    run.nodes = [node_type(node.blocks, node.order, node.underused) for node in run.nodes]
+    RANGE_CALLS["unmap"] = node_type.unmap_sub
+    sections: list[tuple[int, list[str]]] = []
     for line in text_lines(text):
-        if line and not line.startswith("#"):
-            words = line.split()
-            if words[0] in ("setup", "worker"):
-                sections.append((int(words[1]) if words[0] == "worker" else 0, []))
-            else:
-                sections[-1][1].append(line)
+        first, _, number = line.partition(" ")
+        if first in ("setup", "worker"):
+            sections.append((int(number or 0), []))
+        elif line and not line.startswith("#"):
+            sections[-1][1].append(line)
     for section, lines in sections:
         run.section(section, lines)
-    return run
-
-
-def report_of(kind: str, text: str, words: List[str], bug: str) -> str:
-    """Returns a report on a script: totals, answers or journal."""
-    run = run_of(text, words, bug)
-    lines = {"totals": run.totals, "answers": lambda: run.answers, "journal": run.journal}[kind]()
-    return "".join(f"{line}\n" for line in lines)
+    report = {"totals": run.totals, "answers": lambda: run.answers, "journal": run.journal}[kind]()
+    return "".join(f"{line}\n" for line in report)
 
 
 def main() -> int:

@@ -21,7 +21,6 @@ import sys
 import tempfile
 import time
 from pathlib import Path
-from typing import Dict, List, Tuple
 
 ROOT = Path(__file__).resolve().parent.parent.parent
 sys.path.insert(0, str(ROOT))
@@ -36,7 +35,7 @@ NEW, MOST = 40, 0.02  # pages of a round; the greatest difference
 HUGE_PAGES, DROP = 14, 4  # madvise: MADV_HUGEPAGE, MADV_DONTNEED
 
 
-def write_some(at: int, subpages: List[int]) -> None:
+def write_some(at: int, subpages: list[int]) -> None:
     """Writes a word into each of these subpages."""
     for subpage in subpages:
         ctypes.c_long.from_address(at + subpage * BASE).value = 1 + subpage
@@ -50,7 +49,7 @@ def work(rounds: int) -> None:
     offset = first - ctypes.addressof(ctypes.c_char.from_buffer(memory))
     memory.madvise(HUGE_PAGES)
     write_some(first + rounds * NEW * HUGE, list(range(SUBPAGES)))  # policies count from the first event on
-    pages: List[int] = []
+    pages: list[int] = []
     for number in range(rounds):
         time.sleep(max(0.0, began + EVERY * (number + 0.5) - time.monotonic()))
         for page in list(pages):
@@ -69,47 +68,39 @@ def work(rounds: int) -> None:
     time.sleep(max(0.0, began + EVERY * (rounds + 0.5) - time.monotonic()))
 
 
-def record(folder: str, rounds: int, name: str, *words: str) -> List[str]:
-    """Records the workload; returns the paths of journal and times. RuntimeError where the journal isn't legal."""
-    paths = [f"{folder}/{name}.{kind}" for kind in ("journal", "times")]
-    command = [PYTHON, "-IB", str(Path(__file__).resolve()), "work", str(rounds)]
-    tool = [str(ROOT / "linux/thprecord"), "--wait", *words, "--out", paths[0], "--times", paths[1], "--user", "root", "--"]
-    done = subprocess.run([*tool, *command], capture_output=True, text=True, check=False)
+def call(tool: str, *words: str) -> str:
+    """Returns what a tool prints; where it fails, so does this script."""
+    done = subprocess.run([str(ROOT / "linux" / tool), *words], capture_output=True, text=True, check=False)
     if done.returncode:
         print(done.stdout + done.stderr, end="", file=sys.stderr)
         sys.exit(SKIPPED if done.returncode == SKIPPED else FAILED)
+    return done.stdout
+
+
+def record(folder: str, rounds: int, name: str, *words: str) -> list[str]:
+    """Records the workload; returns the paths of journal and times."""
+    paths = [f"{folder}/{name}.{kind}" for kind in ("journal", "times")]
+    command = ["--", PYTHON, "-IB", str(Path(__file__).resolve()), "work", str(rounds)]
+    call("thprecord", "--wait", *words, "--out", paths[0], "--times", paths[1], "--user", "root", *command)
     return paths
 
 
-def given_back(journal: str) -> Tuple[int, int]:
-    """Returns the pages that a journal's scans split, and the frames that these gave back."""
-    with open(journal, encoding="ascii") as file:
-        sets = [words[3] for words in map(str.split, file) if words[1:2] == ["split"]]
-    return len(sets), sum(size(set_of(each)) for each in sets)
-
-
-def predict(paths: List[str], thresholds: List[str]) -> Dict[str, Tuple[int, int]]:
-    """Returns the prediction for each threshold."""
-    words = ["--times", paths[1], "--threshold", ",".join(thresholds), "--scan", f"seconds:{EVERY:g}", "--json"]
-    tool = [str(ROOT / "linux/whatif/thpwhatif"), "policies", paths[0], *words]
-    done = subprocess.run(tool, stdout=subprocess.PIPE, check=False)
-    if done.returncode:
-        sys.exit(done.returncode)
-    return {str(each["threshold"]): (each["split"], each["frames_back"]) for each in json.loads(done.stdout)["policies"]}
-
-
-def main(rounds: int, thresholds: List[str]) -> int:
-    """Prints both numbers for each threshold."""
+def main(rounds: int, thresholds: list[str]) -> int:
+    """Prints both numbers for each threshold: pages that scans split, and the frames that these gave back."""
     passed = 0
     with tempfile.TemporaryDirectory(prefix="promise-") as folder:
-        still = record(folder, rounds, "still", "--every", "0", "--underused", "510", "--contents", "0.05")
-        predicted = predict(still, thresholds)
+        journal, times = record(folder, rounds, "still", "--every", "0", "--underused", "510", "--contents", "0.05")
+        predicted = call("whatif/thpwhatif", "policies", journal, "--times", times, "--threshold", ",".join(thresholds),
+                         "--scan", f"seconds:{EVERY:g}", "--json")
+        policies = {str(each["threshold"]): each for each in json.loads(predicted)["policies"]}
         for threshold in thresholds:
-            paths = record(folder, rounds, threshold, "--every", str(EVERY), "--underused", threshold)
-            (pages, frames), (split, given) = predicted[threshold], given_back(paths[0])
-            off = abs(given - frames) / max(1, given)
-            print(f"threshold {threshold}: predicted {pages} pages split, {frames} frames back; the kernel split {split} and gave "
-                  f"back {given}: {100 * off:.1f} % off", flush=True)
+            policy = policies[threshold]
+            journal, _ = record(folder, rounds, threshold, "--every", str(EVERY), "--underused", threshold)
+            events = [line.split() for line in Path(journal).read_text(encoding="ascii").split("\n")]
+            sets = [size(set_of(words[3])) for words in events if words[1:2] == ["split"]]
+            off = abs(sum(sets) - policy["frames_back"]) / max(1, sum(sets))
+            print(f"threshold {threshold}: predicted {policy['split']} pages split, {policy['frames_back']} frames back; the kernel split "
+                  f"{len(sets)} and gave back {sum(sets)}: {100 * off:.1f} % off", flush=True)
             passed += off <= MOST
     print(f"{passed} passed, {len(thresholds) - passed} failed")
     return DONE if passed == len(thresholds) else FAILED

@@ -3,8 +3,8 @@
 from __future__ import annotations
 
 import json
+from collections.abc import Sequence
 from pathlib import Path
-from typing import Sequence
 
 from ..common.counters import Counter, Counts, SizeCounter
 from ..common.errors import InputFault
@@ -36,10 +36,8 @@ def load(name: str) -> tuple[Script, list[Observation]]:
 class StoredKernel(KernelPages):
     """Looks, one for the beginning and one for each command."""
 
-    drops_zeros = True
-
     def __init__(self, looks: list[Observation], scans_exactly: bool = False) -> None:
-        self._looks, self.scans_exactly = iter(looks), scans_exactly
+        self._looks, self.drops_zeros, self.scans_exactly = iter(looks), True, scans_exactly
 
     def run_command(self, expected: ExpectedAnswer, state: NodeState) -> None:
         pass

@@ -12,7 +12,6 @@ from __future__ import annotations
 import os
 import sys
 from pathlib import Path
-from typing import Callable, Dict, List
 
 sys.path.insert(0, str(Path(__file__).resolve().parent.parent.parent))
 sys.dont_write_bytecode = True
@@ -22,17 +21,16 @@ from linux.common.kernel_memory import KernelMemory  # noqa: E402
 from linux.replay.__main__ import start  # noqa: E402
 
 READ = KernelMemory.queues
-Queues = Dict[int, List[int]]  # pages by NUMA node
 
 
-def read_in_reverse(memory: KernelMemory, group: int) -> Queues:
-    """Returns a group's queues, each from its end."""
+def read_in_reverse(memory: KernelMemory, group: int) -> dict[int, list[int]]:
+    """Returns a group's queues by NUMA node, each from its end."""
     return {node: folios[::-1] for node, folios in READ(memory, group).items()}
 
 
-def read_with_others(memory: KernelMemory, group: int) -> Queues:
+def read_with_others(memory: KernelMemory, group: int) -> dict[int, list[int]]:
     """Returns a group's queues with those of all other groups."""
-    out: Queues = {}
+    out: dict[int, list[int]] = {}
     others = {memory.group(path) for path, _, _ in os.walk(find_hierarchy().mount)}
     for address in [group, *sorted(others - {group})]:
         for node, folios in READ(memory, address).items():
@@ -40,9 +38,6 @@ def read_with_others(memory: KernelMemory, group: int) -> Queues:
     return dict(sorted(out.items()))
 
 
-BUGS: Dict[str, Callable[[KernelMemory, int], Queues]] = {"reverse": read_in_reverse, "other": read_with_others}
-
-
 if __name__ == "__main__":
-    setattr(KernelMemory, "queues", BUGS[sys.argv.pop(1)])
+    setattr(KernelMemory, "queues", {"reverse": read_in_reverse, "other": read_with_others}[sys.argv.pop(1)])
     start()

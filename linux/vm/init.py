@@ -17,7 +17,6 @@ from __future__ import annotations
 import ctypes
 import json
 import os
-import select
 import struct
 import subprocess
 import sys
@@ -25,8 +24,8 @@ import termios
 import time
 import traceback
 import tty
-from contextlib import suppress
-from typing import Any, NoReturn
+from threading import Event, Lock, Thread
+from typing import IO, Any, NoReturn
 
 PLAN = "/etc/thpvm.json"
 LINE = "/dev/ttyS1"
@@ -35,6 +34,7 @@ PART = 4096  # bytes of one message
 WORDS = {"PATH": "/usr/local/sbin:/usr/local/bin:/usr/sbin:/usr/bin", "HOME": "/root", "LC_ALL": "C.UTF-8", "TERM": "dumb"}
 NOT_FOUND, NOT_STARTED, BY_SIGNAL = 127, 126, 128  # a shell's statuses
 LIBC = ctypes.CDLL(None, use_errno=True)
+SENDING = Lock()
 
 
 def mount(kind: str, place: str, options: str = "") -> str:
@@ -44,45 +44,24 @@ def mount(kind: str, place: str, options: str = "") -> str:
     return os.strerror(ctypes.get_errno()) if failed else ""
 
 
-def send(line: int, letter: bytes, content: bytes) -> None:
+def send(line: int, letter: bytes, content: bytes = b"") -> None:
     """Sends one message."""
     data = letter + struct.pack("<I", len(content)) + content
-    while data:
-        data = data[os.write(line, data):]
+    with SENDING:
+        while data:
+            data = data[os.write(line, data):]
 
 
-def reap(child: int) -> int:
-    """Takes the statuses of all processes that have ended, as the first process has to. Returns the child's, or -1."""
-    found = -1
-    with suppress(ChildProcessError):
-        number, status = os.waitpid(-1, os.WNOHANG)
-        while number:
-            if number == child:
-                code = os.waitstatus_to_exitcode(status)
-                found = code if code >= 0 else BY_SIGNAL - code
-            number, status = os.waitpid(-1, os.WNOHANG)
-    return found
+def send_beats(line: int, ended: Event) -> None:
+    """Sends beats until the command has ended."""
+    while not ended.wait(BEAT):
+        send(line, b"B")
 
 
-def follow(line: int, child: subprocess.Popen[bytes]) -> int:
-    """Sends what the command writes, and returns its status once it has ended."""
-    assert child.stdout and child.stderr
-    outputs = {child.stdout.fileno(): b"O", child.stderr.fileno(): b"E"}
-    status, beaten, until = -1, 0.0, 0.0
-    while status < 0 or (outputs and time.monotonic() < until):
-        if time.monotonic() - beaten >= BEAT:
-            send(line, b"B", b"")
-            beaten = time.monotonic()
-        ready, _, _ = select.select(list(outputs), [], [], BEAT / 10)
-        for descriptor in ready:
-            data = os.read(descriptor, PART)
-            if data:
-                send(line, outputs[descriptor], data)
-            else:
-                del outputs[descriptor]
-        if status < 0:
-            status, until = reap(child.pid), time.monotonic() + GRACE
-    return status
+def send_output(line: int, letter: bytes, output: IO[bytes]) -> None:
+    """Sends what the command writes."""
+    while data := os.read(output.fileno(), PART):
+        send(line, letter, data)
 
 
 def run_command(line: int, plan: dict[str, Any]) -> int:
@@ -94,8 +73,20 @@ def run_command(line: int, plan: dict[str, Any]) -> int:
     except OSError as error:
         send(line, b"E", f"{words[0]}: {error.strerror}\n".encode("utf-8", "backslashreplace"))
         return NOT_FOUND if isinstance(error, FileNotFoundError) else NOT_STARTED
+    ended, number, status = Event(), 0, 0
+    threads = [Thread(target=send_output, args=(line, letter, output), daemon=True)
+               for letter, output in ((b"O", child.stdout), (b"E", child.stderr))]
+    threads.append(Thread(target=send_beats, args=(line, ended)))
     with child:
-        return follow(line, child)
+        for thread in threads:
+            thread.start()
+        while number != child.pid:  # the first process takes the statuses of all
+            number, status = os.waitpid(-1, 0)
+        ended.set()
+        for thread in threads:
+            thread.join(GRACE)
+    code = os.waitstatus_to_exitcode(status)
+    return code if code >= 0 else BY_SIGNAL - code
 
 
 def run(line: int) -> None:
@@ -115,10 +106,9 @@ def run(line: int) -> None:
 
 
 def main() -> NoReturn:
-    for kind, place in (("proc", "/proc"), ("sysfs", "/sys"), ("devtmpfs", "/dev"), ("tmpfs", "/dev/shm"), ("tmpfs", "/run"),
-                        ("tmpfs", "/tmp"), ("debugfs", "/sys/kernel/debug"), ("tracefs", "/sys/kernel/tracing")):
+    for kind, place in (("proc", "/proc"), ("sysfs", "/sys"), ("devtmpfs", "/dev"), ("tmpfs", "/dev/shm"),
+                        ("debugfs", "/sys/kernel/debug"), ("tracefs", "/sys/kernel/tracing")):
         mount(kind, place)
-    os.chmod("/run", 0o755)
     try:
         line = os.open(LINE, os.O_RDWR | os.O_NOCTTY)
         tty.setraw(line, termios.TCSANOW)  # bytes go as they are

@@ -8,13 +8,11 @@ from __future__ import annotations
 
 import os
 import re
-import resource
 import shutil
 import subprocess
-import sys
 import tempfile
 import time
-from collections.abc import Callable, Sequence
+from collections.abc import Sequence
 from pathlib import Path
 
 from ..common.errors import InputFault, RunFailed, Unavailable
@@ -26,41 +24,40 @@ PACKAGE = re.compile(r"linux-(?:image|binary)-[a-z0-9][a-z0-9.+~-]{0,80}")
 SUITE = re.compile(r"[a-z][a-z0-9-]{1,40}")
 MIRROR, KEYS = "http://deb.debian.org/debian", "/usr/share/keyrings/debian-archive-keyring.gpg"
 MOST_IMAGE, MOST_CONTROL = 256 << 20, 1 << 20  # bytes of an image, of a package's description
-MOST_MEMORY, MOST_SECONDS = 384 << 20, 300  # bytes of memory and seconds of processor time of what reads a package
 MOST_STEPS = 4  # packages that depend on one another until one has the image
 SECONDS = 600.0  # that a program of apt gets
 AGE = 86400.0  # seconds after which lists are fetched again
-_IMAGE, _CONTROL = r"(?:\./)?(?:boot/vmlinuz-[^/]+|(?:usr/)?lib/modules/[^/]+/vmlinuz)", r"(?:\./)?control"
-_DEPENDS = re.compile(rb"^Depends:(.*(?:\n .*)*)", re.MULTILINE)
-UNPACK = Path(__file__).with_name("unpack.py")
-_URI = re.compile(r"^'[^']+' ([A-Za-z0-9.+~_%-]+)\.deb ", re.MULTILINE)
+IN_PACKAGE = ("./boot/vmlinuz-*", "./usr/lib/modules/*/vmlinuz", "./lib/modules/*/vmlinuz")
 IN_FOLDER = ("arch/x86/boot/bzImage", "arch/x86_64/boot/bzImage", "bzImage", "vmlinuz", "boot/vmlinuz-*",
              "usr/lib/modules/*/vmlinuz", "lib/modules/*/vmlinuz", "vmlinuz-*")
+# a package may be anybody's: what reads one has 384 MiB of memory and 300 s of processor time, and runs nothing of it
+LIMITS = "ulimit -v 393216; ulimit -t 300; "
+FILE_OF = f'{LIMITS} dpkg-deb --fsys-tarfile "$1" | tar -xO --occurrence=1 --wildcards "$2" 2> /dev/null | head -c {MOST_IMAGE}'
+DEPENDS_OF = f'{LIMITS} dpkg-deb --field "$1" Depends | head -c {MOST_CONTROL}'
+_URI = re.compile(r"^'[^']+' ([A-Za-z0-9.+~_%-]+)\.deb ", re.MULTILINE)
 _MAGIC_AT, _MAGIC = 0x202, b"HdrS"  # Documentation/arch/x86/boot.rst
 
 
-def call(
-    words: Sequence[str], folder: str | None = None, limit: Callable[[], None] | None = None
-) -> subprocess.CompletedProcess[bytes]:
+def call(words: Sequence[str], folder: str | None = None) -> subprocess.CompletedProcess[bytes]:
     """Runs a program of apt, or one that reads a package. Unavailable where it isn't there or takes too long."""
     if not shutil.which(words[0]):
         raise Unavailable(f"no {words[0]}: packages can't be used here")
     environment = {"PATH": "/usr/sbin:/usr/bin:/sbin:/bin", "LC_ALL": "C.UTF-8", "DPKG_DEB_THREADS_MAX": "1"}
     try:
         return subprocess.run(words, cwd=folder, env=environment, stdin=subprocess.DEVNULL, capture_output=True, check=False,
-                              timeout=SECONDS, preexec_fn=limit)
+                              timeout=SECONDS)
     except subprocess.TimeoutExpired as error:
         raise Unavailable(f"{escape(words[0])} takes more than {SECONDS:.0f} s") from error
 
 
 def reason_of(done: subprocess.CompletedProcess[bytes]) -> str:
     """Returns the last line of a program's errors, printable."""
-    lines = [line for line in done.stderr.split(b"\n") if line.startswith(b"E:")] or [b"no reason"]
+    lines = [line for line in done.stderr.split(b"\n") if b"E:" in line or b"error:" in line] or [b"no reason"]
     return escape(lines[-1])[:200]
 
 
 def open_cache() -> Path:
-    """Returns the caller's own folder of what was fetched, made where it is missing."""
+    """Returns the caller's own folder of kernels, made where it is missing."""
     cache = Path("/var/cache")
     if os.geteuid() != 0:
         cache = Path(os.environ.get("XDG_CACHE_HOME") or Path.home() / ".cache")
@@ -68,74 +65,65 @@ def open_cache() -> Path:
         cache.mkdir(mode=0o700, parents=True, exist_ok=True)
     except OSError as error:
         raise Unavailable(f"{cache} can't be made: {error.strerror}") from error
-    open_folder(str(cache / "leversorrel"))
-    return cache / "leversorrel"
+    for folder in (cache / "leversorrel", cache / "leversorrel/kernels"):
+        open_folder(str(folder))
+    return folder
 
 
-class PackageLists:
-    """The lists of the machine, or those of a suite in a folder of the cache."""
+def words_of_apt(cache: Path, suite: str | None) -> list[str]:
+    """Returns the first words of a call of apt-get: with the machine's lists, or with those of a suite, in a folder of the cache."""
+    words = ["apt-get", "-qq", *(["-o", "APT::Sandbox::User=root"] if os.geteuid() == 0 else [])]
+    if suite is None:
+        return words
+    if not os.path.exists(KEYS):
+        raise Unavailable(f"no {KEYS} (Debian's package debian-archive-keyring)")
+    place = cache / f"lists-{suite}"
+    for folder in ("lists/partial", "cache/archives/partial"):
+        (place / folder).mkdir(parents=True, exist_ok=True)
+    sources, fetched = place / "sources.list", place / "fetched"
+    sources.write_text(f"deb [signed-by={KEYS}] {MIRROR} {suite} main\n")
+    for name, value in (("Etc::sourcelist", sources), ("Etc::sourceparts", "-"), ("State::lists", place / "lists"),
+                        ("Cache", place / "cache"), ("State::status", "/dev/null")):
+        words += ["-o", f"Dir::{name}={value}"]
+    if not fetched.exists() or time.time() - fetched.stat().st_mtime > AGE:
+        done = call([*words, "update"])
+        if done.returncode or b"\nW: Failed" in b"\n" + done.stderr:
+            raise Unavailable(f"the lists of {suite} can't be fetched: {reason_of(done)}")
+        fetched.touch()
+    return words
 
-    def __init__(self, suite: str | None) -> None:
-        self._folder = open_cache() / "kernels"
-        open_folder(str(self._folder))
-        self._where = f"suite {suite}" if suite else "the machine's lists (--suite names others)"
-        self._words = ["apt-get", "-qq", *(["-o", "APT::Sandbox::User=root"] if os.geteuid() == 0 else [])]
-        if suite:
-            self._use_suite(suite)
 
-    def _use_suite(self, suite: str) -> None:
-        if not os.path.exists(KEYS):
-            raise Unavailable(f"no {KEYS} (Debian's package debian-archive-keyring)")
-        place = self._folder / f"lists-{suite}"
-        for folder in ("lists/partial", "cache/archives/partial"):
-            (place / folder).mkdir(parents=True, exist_ok=True)
-        sources, fetched = place / "sources.list", place / "fetched"
-        sources.write_text(f"deb [signed-by={KEYS}] {MIRROR} {suite} main\n")
-        for name, value in (("Etc::sourcelist", sources), ("Etc::sourceparts", "-"), ("State::lists", place / "lists"),
-                            ("Cache", place / "cache"), ("State::status", "/dev/null")):
-            self._words += ["-o", f"Dir::{name}={value}"]
-        if not fetched.exists() or time.time() - fetched.stat().st_mtime > AGE:
-            done = call([*self._words, "update"])
-            if done.returncode or b"\nW: Failed" in b"\n" + done.stderr:
-                raise Unavailable(f"the lists of {suite} can't be fetched: {reason_of(done)}")
-            fetched.touch()
-
-    def _stem(self, name: str) -> str:
-        """Returns the name and version of a package's file, without its ending."""
-        done = call([*self._words, "--print-uris", "download", name])
-        found = _URI.search(done.stdout.decode("utf-8", "replace"))
-        if found:
-            return found[1]
-        stored = sorted(self._folder.glob(f"{name}_*.vmlinuz"), key=lambda path: path.stat().st_mtime)
-        if stored:
-            return stored[-1].name.removesuffix(".vmlinuz")
-        raise Unavailable(f"no package {escape(name)} in {self._where}: {reason_of(done)}")
-
-    def image(self, name: str) -> bytes:
-        """Returns the kernel image of a package, or of the first package that it depends on and that has one."""
-        for _ in range(MOST_STEPS):
-            stored = self._folder / f"{self._stem(name)}.vmlinuz"
-            if stored.exists():
-                return stored.read_bytes()
-            with tempfile.TemporaryDirectory(dir=self._folder) as folder:
-                done = call([*self._words, "download", name], folder)
-                found = sorted(map(str, Path(folder).glob("*.deb")))
-                if done.returncode or not found:
-                    raise Unavailable(f"package {escape(name)} can't be downloaded: {reason_of(done)}")
-                image = extract_image(found[0])
-                if image:
-                    part = Path(folder) / "image"
-                    part.write_bytes(image)
-                    os.replace(part, stored)
-                    return image
-                name = next_package(found[0])
-        raise Unavailable(f"package {escape(name)} leads to no kernel image")
+def fetch_image(name: str, suite: str | None) -> bytes:
+    """Returns the kernel image of a package, or of the first package that it depends on and that has one."""
+    cache = open_cache()
+    words = words_of_apt(cache, suite)
+    for _ in range(MOST_STEPS):
+        done = call([*words, "--print-uris", "download", name])
+        stem = _URI.search(done.stdout.decode("utf-8", "replace"))
+        if not stem:
+            where = f"suite {suite}" if suite else "the machine's lists (--suite names others)"
+            raise Unavailable(f"no package {escape(name)} in {where}: {reason_of(done)}")
+        stored = cache / f"{stem[1]}.vmlinuz"
+        if stored.exists():
+            return stored.read_bytes()
+        with tempfile.TemporaryDirectory(dir=cache) as folder:
+            done = call([*words, "download", name], folder)
+            package = next(Path(folder).glob("*.deb"), None)
+            if done.returncode or not package:
+                raise Unavailable(f"package {escape(name)} can't be downloaded: {reason_of(done)}")
+            image = extract_image(str(package))
+            if image:
+                part = Path(folder) / "image"
+                part.write_bytes(image)
+                os.replace(part, stored)
+                return image
+            name = next_package(str(package))
+    raise Unavailable(f"package {escape(name)} leads to no kernel image")
 
 
 def next_package(package: str) -> str:
     """Returns the first package of a kernel on which a package without an image depends."""
-    depends = _DEPENDS.search(unpack(package, "--ctrl-tarfile", _CONTROL, MOST_CONTROL))
-    for word in re.split(r"[,|]", depends[1].decode("utf-8", "replace") if depends else ""):
+    for word in re.split("[,|]", read_package(DEPENDS_OF, package).decode("utf-8", "replace")):
         found = PACKAGE.match(word.strip())
         if found:
             return found[0]
@@ -144,26 +132,17 @@ def next_package(package: str) -> str:
 
 def extract_image(package: str) -> bytes:
     """Returns the kernel image in a package's file, or nothing. Only the image is unpacked."""
-    return unpack(package, "--fsys-tarfile", _IMAGE, MOST_IMAGE)
+    return next(filter(None, (read_package(FILE_OF, package, pattern) for pattern in IN_PACKAGE)), b"")
 
 
-def unpack(package: str, option: str, pattern: str, most: int) -> bytes:
-    """Returns the first file of a package that has such a name and size, or nothing. RunFailed where the package can't be read
-    within the limits."""
+def read_package(command: str, package: str, *words: str) -> bytes:
+    """Returns what a command of the shell finds in a package's file. RunFailed where the package can't be read."""
     if not shutil.which("dpkg-deb"):
         raise Unavailable("no dpkg-deb: packages can't be used here")
-    done = call([sys.executable, "-IBS", str(UNPACK), option, os.path.abspath(package), pattern, str(most)], limit=_limit)
-    if done.returncode:
-        reason = done.stderr.strip().split(b"\n")[-1] or f"status {done.returncode}".encode()
-        raise RunFailed(f"{escape(package)} can't be read as a package: {escape(reason)[:200]}")
+    done = call(["sh", "-c", command, "sh", os.path.abspath(package), *words])
+    if done.stderr and not done.stdout:
+        raise RunFailed(f"{escape(package)} can't be read as a package: {reason_of(done)}")
     return done.stdout
-
-
-def _limit() -> None:
-    """Bounds the memory and time of this process and of those that it starts."""
-    for which, most in ((resource.RLIMIT_AS, MOST_MEMORY), (resource.RLIMIT_CPU, MOST_SECONDS)):
-        _, hard = resource.getrlimit(which)
-        resource.setrlimit(which, (most if hard == resource.RLIM_INFINITY else min(most, hard), hard))
 
 
 def image_in_folder(folder: str) -> str:
@@ -184,7 +163,7 @@ def find_kernel(text: str, suite: str | None) -> tuple[str, bytes]:
     if os.path.lexists(path) or "/" in path:
         image = extract_image(path) if path.endswith(".deb") and os.path.isfile(path) else read_input(path, MOST_IMAGE)
     elif PACKAGE.fullmatch(text):
-        image = PackageLists(suite).image(text)
+        image = fetch_image(text, suite)
     else:
         raise InputFault(f"{escape(text)} is no file, no folder and no name of a kernel's package (linux-image-..)")
     if image[_MAGIC_AT : _MAGIC_AT + len(_MAGIC)] != _MAGIC:
