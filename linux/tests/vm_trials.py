@@ -86,7 +86,7 @@ def print_letters(kernel: str) -> Optional[str]:
 
 def record(kernel: str, seed: int) -> Optional[str]:
     """Returns what is wrong with recordings of the tool's own workload, or nothing."""
-    words = " ".join(["thprecord", *CHECKER, "--straighten", "--own"])
+    words = " ".join(["thprecord", *CHECKER, "--own"])
     seeds = " ".join(str(seed + SEEDS * number) for number in range(RECORDINGS))
     command = f"for seed in {seeds}; do {words} 1,{STEPS},$seed --least {EVENTS} || exit $?; done"
     done = run_in_guest(kernel, [], ["sh", "-c", command])
