@@ -11,9 +11,9 @@ _thprecord() {
     --checker | --program | --out | --times | --records) COMPREPLY=($(compgen -f -- "$word")); return ;;
     --underused) COMPREPLY=($(compgen -W 'off as-is' -- "$word")); return ;;
     --user) COMPREPLY=($(compgen -u -- "$word")); return ;;
-    --own | --order | --groups | --every | --contents | --collapse | --tamper | --least | --seconds | --events | --disk) COMPREPLY=(); return ;;
+    --own | --order | --groups | --every | --contents | --collapse | --require | --least | --seconds | --events | --disk) COMPREPLY=(); return ;;
     esac
-    COMPREPLY=($(compgen -W '--checker --program --own --order --groups --underused --every --collapse --compact --straighten
-        --out --times --contents --records --tamper --least --seconds --events --disk --user --wait --help --version --' -- "$word"))
+    COMPREPLY=($(compgen -W '--checker --program --own --order --groups --underused --every --collapse --compact --strict --require
+        --out --times --contents --records --least --seconds --events --disk --user --wait --help --version --' -- "$word"))
 }
 complete -F _thprecord thprecord

@@ -13,9 +13,9 @@
         mappings         effects of calls, forks and ends of address spaces on pages
         state            pages and their mappings, the queue and the journal so far
         lines            the journal's latest lines, and older ones on disk
-    queue_order      the order of a queue's pages, whatever their sizes
     outputs          the journal as a file, its check, and the output files
-    tampering        altered copies of a journal
+    reasons          everything that is counted and left out, with what to do
+    report           the verdict, and what is printed
     workload.c  threads that make, divide and drop huge pages
     __main__    recordings, one after another, and what is printed
 """

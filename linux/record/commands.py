@@ -17,7 +17,6 @@ from ..common.text import escape
 from ..common.user import User
 
 PATIENCE = 2.0  # seconds from SIGTERM to SIGKILL
-LINKS = 2  # of the folder of a control group without others in it
 PAUSE = 0.002  # seconds between two looks
 HELD = 100  # processes that are held at a time
 
@@ -46,7 +45,6 @@ class Commands:
     def __init__(self, keeper: Keeper, groups: Sequence[str], take: Callable[[], None]) -> None:
         self._keeper, self._groups, self._take = keeper, groups, take
         self._children: list[subprocess.Popen[bytes]] = []
-        self.has_inner_groups = False  # their queues aren't recorded
 
     def start(self, words: Sequence[str], group: str, user: User | None) -> None:
         """Starts a command in a group, as a user; None: as the tool."""
@@ -88,11 +86,6 @@ class Commands:
         statuses = [child.returncode for child in self._children]
         return ["still runs" if each is None else f"ended with status {each}" if each >= 0 else f"was killed by {_signal_name(-each)}"
                 for each in statuses]
-
-    def look_for_groups(self) -> None:
-        """Notes in `has_inner_groups` whether a command has made control groups in its own."""
-        with suppress(OSError):
-            self.has_inner_groups = self.has_inner_groups or any(os.stat(group).st_nlink > LINKS for group in self._groups)
 
     def _folders(self) -> list[str]:
         """Returns the groups, and those that the commands have made in them."""

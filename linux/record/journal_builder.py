@@ -16,7 +16,8 @@ from typing import Iterable
 from ..common.files import BASE, PMD_ORDER
 from ..common.subpages import runs
 from .calls import COLLAPSE, COPIED, MADVISE, MADV_COLLAPSE, has_succeeded
-from .records import IN_FAULT, Kind, Record
+from .reasons import Count, Doubt, Omission
+from .records import IN_FAULT, QUEUE_MOST, WITH_QUEUE, Kind, Record
 from .scans import ScanEvents
 from .state import Page
 
@@ -36,10 +37,12 @@ class JournalBuilder(ScanEvents):
         for record in records:
             self.now, self.task = record.time, record.task
             self.ends.update(record.space_ends or {})
+            if record.kind in WITH_QUEUE and record.queue is None and len(self.queue) > QUEUE_MOST:
+                self.tallies[Count.COPIES_MISSING] += 1
+                self.begin_doubt(Doubt.LONG_QUEUE)
             if record.queue is not None and record.time < self.emitted_until:
                 # begun before the end of a scan whose record came first: the copy may show the queue before that
                 record.queue = None
-                self.tallies["copies begun before the end of a scan, not used"] += 1
             if record.kind not in (Kind.FREE, Kind.CONTENTS):  # an interrupt frees in any task's name
                 self._end_last_step(record)
             if not record.is_applied:
@@ -97,7 +100,7 @@ class JournalBuilder(ScanEvents):
             space, _, _, index = record.end.values[:4]
             self._begin(Kind.COLLAPSED, record, space, COLLAPSE, index * BASE, BASE << PMD_ORDER, 0, folio)
         elif record.space and order != self.order:  # a kernel thread's is a collapse that failed, or a migration
-            self.tallies[f"pages of order {order}, not followed"] += 1
+            self.tallies[Count.OTHER_ORDER] += order not in self.orders
         elif record.space and self.is_followed(folio) and how == IN_FAULT:
             page = self._fault_pages[record.task] = self.new_page(record.task, record.space, folio, address)
             if page in self.queue:
@@ -105,7 +108,7 @@ class JournalBuilder(ScanEvents):
         elif record.space and self.is_followed(folio):
             call = self.pending.get((record.task, Kind.ENTER))
             fails = call and call.values[0] == MADVISE and call.values[3] == MADV_COLLAPSE
-            self.tallies["collapses that failed" if fails else "allocations without a fault, not followed"] += 1
+            self.tallies[Count.WITHOUT_FAULT] += not fails
 
     def handle_contents(self, record: Record) -> None:
         """Emits what was written since the last look at a page: data where zeros were, and zeros where data was. What the first
@@ -144,6 +147,9 @@ class JournalBuilder(ScanEvents):
         page = self.at.get(freed & -(self.page_size << self.order))
         if page and order == 0:
             page.freed_frames |= 1 << (freed - page.folio) // self.page_size
+            scan = self.scans.get(record.task)
+            if scan and page in self.queue and page not in scan.split:
+                scan.split.append(page)
         elif page and order == self.order and freed == page.folio and not self._has_migrated(record.task, page):
             if self._fault_pages.get(record.task) is page and page.used_subpages() and not self.is_ending(page):
                 self.discard(page)
@@ -171,10 +177,10 @@ class JournalBuilder(ScanEvents):
             address, folio, order = record.values[:3]
             inside = any(0 <= address - each.base < page.subpages * BASE for each in page.maps.values())
             if inside and order == self.order and page.is_live and not page.split:
-                self.tallies["pages that migrated"] += 1
+                self.tallies[Count.MIGRATED] += 1
                 del self.at[page.folio]
                 page.folio, self.at[folio] = folio, page
                 if page in self.queue:
-                    self.omit(page, "migrated while it was queued (M)")
+                    self.omit(page, Omission.MIGRATED)
                 return True
         return False

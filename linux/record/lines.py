@@ -27,13 +27,12 @@ class JournalLines:
     def __init__(self) -> None:
         self.latest: list[JournalLine] = []
         self.final = 0  # how many lines went to the file
-        self._file: ScratchFile | None = None
+        self._file = ScratchFile("the journal")
 
     def add(self, line: JournalLine) -> None:
         """Appends a line, and makes the oldest ones final where there are many more than can be reordered."""
         self.latest.append(line)
         if len(self.latest) >= WINDOW + SLACK:
-            self._file = self._file or ScratchFile("the journal")
             oldest, self.latest = self.latest[:-WINDOW], self.latest[-WINDOW:]
             self._file.append_lines(f"{each.time} {each.text}" for each in oldest)
             self.final += len(oldest)
@@ -69,13 +68,13 @@ class JournalLines:
                 del numbers[number]  # this was its last line
 
     def _all(self) -> Iterator[tuple[int, str]]:
-        for line in self._file.lines() if self._file else ():
-            time, _, text = line.decode("ascii").partition(" ")
-            yield int(time), text
+        with self._file.open_again() as lines:
+            for line in lines:
+                time, _, text = line.decode("ascii").rstrip("\n").partition(" ")
+                yield int(time), text
         for each in self.latest:
             yield each.time, each.text
 
     def close(self) -> None:
         """Removes the file."""
-        if self._file:
-            self._file.close()
+        self._file.close()

@@ -7,6 +7,7 @@ from dataclasses import dataclass, field, replace
 from ..common.files import BASE, PMD_ORDER
 from ..common.subpages import bits_of, runs
 from .calls import COLLAPSE, REMOVING, Effect, MappingChange, list_effects
+from .reasons import Count, Omission
 from .records import Record
 from .state import Mapping, Page, State
 
@@ -33,7 +34,6 @@ class MappingEvents(State):
         for effect in list_effects(record):
             if effect.change in REMOVING and record.space in page.maps:
                 self._apply_effect(record, effect, page, queue)
-        self.tallies["pages followed before their call's end"] += 1
 
     def reaches(self, call: Record, page: Page) -> bool:
         """Returns whether a running call removes mappings of a page that were not emitted early."""
@@ -53,11 +53,9 @@ class MappingEvents(State):
         for page, mapping in list(self.spaces.get(parent, {}).items()):
             copy = page.maps[child] = self.spaces[child][page] = replace(mapping, space=child, since=self.now)
             if mapping.whole:
-                page.whole += 1
                 self.emit(record.task, page, "mapwhole")
                 continue
             copy.bits &= page.held  # zero-filled subpages that a split gave back aren't the page's
-            page.own.add(copy.bits)
             for first, count in runs(copy.bits):
                 self.emit(record.task, page, "mapsub", first, count)
 
@@ -73,7 +71,6 @@ class MappingEvents(State):
         """Removes a page whose processes have ended, before their end is recorded."""
         for mapping in list(page.maps.values()):
             self.unmap(self.ends[mapping.space], page, mapping, page.every, queue)
-        self.tallies["pages followed before their process's end"] += 1
 
     def begin_end(self, page: Page, queue: list[int]) -> None:
         """Unmaps a page that is in the queue in address spaces that are ending, one after the other until it is partly mapped. Of
@@ -82,8 +79,6 @@ class MappingEvents(State):
             bits = page.every if len(page.maps) > 1 else self._in_first_table(mapping)
             if bits and page not in self.queue:
                 self.unmap(self.ends[mapping.space], page, mapping, bits, queue)
-        if page in self.queue:
-            self.tallies["pages followed before their process's end"] += 1
 
     def unmap(self, record: Record, page: Page, mapping: Mapping, bits: int, queue: list[int] | None) -> None:
         """Removes one address space's mappings of these subpages."""
@@ -94,11 +89,7 @@ class MappingEvents(State):
         steps = [(0, page.subpages)] if whole else [*runs(mapped & first), *runs(mapped & ~first)]
         for step in steps:
             before = page.used_subpages()
-            if whole:
-                page.whole, mapping.whole = page.whole - 1, False
-            else:
-                page.own.take(bits_of(*step))
-            mapping.bits &= ~bits_of(*step)
+            mapping.bits, mapping.whole = mapping.bits & ~bits_of(*step), False
             outcome, given = self._outcome(record, page, before, queue, step is steps[-1])
             self.emit(record.task, page, "unmapwhole" if whole else "unmapsub", *step, outcome, given)
             if outcome == "queued":
@@ -115,7 +106,7 @@ class MappingEvents(State):
         folio, whole, total, mapped = record.counts()
         page = self.at.get(folio)
         mapping = page.maps.get(record.space) if page else None
-        if not page or not mapping or page.split or page.omission or self.scans or page.last_change > record.time:
+        if not page or not mapping or page.split or page.is_omitted or self.scans or page.last_change > record.time:
             return
         if not 0 <= record.values[1] - mapping.base < page.subpages * BASE:
             return  # the page that was there has gone, and this one has its frames
@@ -123,10 +114,10 @@ class MappingEvents(State):
             return
         own = page.counts()
         kept = mapped or total == whole  # not where NO_PAGE_MAPCOUNT is configured
-        self.tallies["map counts compared"] += 1
+        self.tallies[Count.MAP_COUNTS_COMPARED] += 1
         if (whole, total, mapped if kept else own[2]) != own:
-            self.tallies["map counts that differ"] += 1
-            self.omit(page, "its map counts are others than inferred")
+            self.tallies[Count.MAP_COUNTS_DIFFER] += 1
+            self.omit(page, Omission.MAP_COUNTS)
 
     # small steps
 
@@ -134,16 +125,16 @@ class MappingEvents(State):
         """Adds the page that a collapse made."""
         start, folio = record.values[1], record.values[4]
         if self.order != PMD_ORDER:
-            self.tallies["pages made by collapses, of an order that isn't followed"] += 1
+            self.tallies[Count.OTHER_ORDER] += 1
             return
         if not self.is_followed(folio):
             return
         page = self.new_page(record.task, record.space, folio, start)
-        self.tallies["pages made by collapses"] += 1
+        self.tallies[Count.COLLAPSED] += 1
         if page in self.queue:
             self.joining[record.task] = page  # if it is emitted before its end
         if record.space in self._remapped:
-            self.omit(page, "made by a collapse in an area that mremap may have moved")
+            self.omit(page, Omission.MOVED_COLLAPSE)
 
     def _pages_in(self, space: int, effect: Effect) -> list[Page]:
         """Returns the pages that an address space maps in a range, by their addresses."""
@@ -160,7 +151,7 @@ class MappingEvents(State):
         if effect.change in REMOVING:
             self.unmap(record, page, mapping, bits, queue)
         elif effect.change is MappingChange.LOSES:
-            self.omit(page, "advice that isn't followed")
+            self.omit(page, Omission.ADVICE)
         elif effect.change is MappingChange.MOVES:
             self._move_mapping(record, page, mapping, bits, effect.by)
         elif mapping.whole and bits != page.every:
@@ -180,17 +171,14 @@ class MappingEvents(State):
         """Moves a mapping within its address space. A PMD mapping remains one if both places are aligned to it
         (mm/mremap.c: move_page_tables)."""
         if mapping.bits & ~bits:
-            self.omit(page, "a part of it moved (mremap)")
+            self.omit(page, Omission.PART_MOVED)
         if mapping.whole and page.subpages == 1 << PMD_ORDER and by % (BASE << PMD_ORDER):
             self._split_pmd(record, page, mapping)
         mapping.base, mapping.since = mapping.base + by, self.now
-        self.tallies["pages whose mapping moved"] += 1
 
     def _split_pmd(self, record: Record, page: Page, mapping: Mapping) -> None:
         """Turns a PMD mapping into PTE mappings."""
         mapping.whole = False
-        page.whole -= 1
-        page.own.add(page.every)
         self.emit(record.task, page, "splitpmd")
 
     def _in_first_table(self, mapping: Mapping) -> int:
@@ -205,11 +193,11 @@ class MappingEvents(State):
         if page.split:
             given = before & ~after & page.held
             if last and given & ~page.freed_frames:
-                self.omit(page, "a base page was held after the split")
+                self.omit(page, Omission.HELD_AFTER_SPLIT)
             page.held &= ~given
             return ("stays" if after else "freed"), given
         if last and after and page.is_freed:
-            self.omit(page, "its folio was freed: khugepaged took it (K)")
+            self.omit(page, Omission.COLLAPSED)
             self.dequeue(page)
             return "stays", 0
         if not after:
@@ -218,14 +206,14 @@ class MappingEvents(State):
         if newly and not page.is_partly_mapped:
             page.is_partly_mapped, page.partly_since = True, self.now
         seen = queue is not None and page.folio in queue
-        if not newly or page in self.queue:
+        if not newly or page in self.queue or page.is_taken:
             return "stays", 0
         if queue is None or seen or not last or page.is_freed:
-            self.tallies["queued, seen" if seen else "queued, inferred"] += 1
+            self.tallies[Count.QUEUED_SEEN if seen else Count.QUEUED_INFERRED] += 1
             return "queued", 0
         if self._is_taken_by_scan(page):
             return "queued", 0
-        self.omit(page, "partly mapped, and in no queue at the call's end")
+        self.omit(page, Omission.NOT_QUEUED)
         return "stays", 0
 
     def _is_taken_by_scan(self, page: Page) -> bool:
@@ -235,14 +223,13 @@ class MappingEvents(State):
             if scan.start.queue is not None and len(scan.pages) < scan.start.values[0]:
                 scan.pages.append(page)
                 scan.start.queue.append(page.folio)
-                self.tallies["pages that joined between a scan's start and its taking"] += 1
                 return True
         return False
 
     def _last_unmap(self, record: Record, page: Page) -> tuple[str, int]:
         """Returns the outcome of a page's last unmap, and the frames given back."""
         if not page.is_freed and not page.pins and any(page in scan.pages for scan in self.scans.values()):
-            self.tallies["last unmaps while a scan held the page (R)"] += 1
+            self.tallies[Count.HELD_BY_SCAN] += 1
             return "freed", page.held
         if not page.is_freed:  # something else holds it
             self.hold(record.task, page)

@@ -2,8 +2,10 @@
 
 from __future__ import annotations
 
+import itertools
 import os
 from argparse import Namespace
+from dataclasses import dataclass
 from typing import IO, Iterable, Sequence
 
 from ..common.checker import JournalChecker
@@ -16,27 +18,33 @@ from .scratch import ScratchFile
 SHOWN = 300  # letters of a line that is printed
 
 
+@dataclass(frozen=True)
+class Check:
+    """The result of a journal's check: the line of an illegal event, from 1, and lines that explain it."""
+
+    line: int | None
+    why: list[str]
+
+
 class JournalFile(ScratchFile):
-    """A journal in an unnamed temporary file."""
+    """A journal in an unnamed temporary file. `events`: how many it has."""
 
     def __init__(self, nodes: Sequence[Node]) -> None:
         super().__init__("the journal")
-        self.append_lines(journal_lines(nodes))
+        self.events = self.append_lines(journal_lines(nodes)) - len(nodes) - 2
 
     def line(self, number: int) -> str:
         """Returns a line, counted from 1; "" where there is none."""
-        return next((escape(line)[:SHOWN] for at, line in enumerate(self.lines(), 1) if at == number), "")
+        with self.open_again() as file:
+            return escape(next(itertools.islice(file, number - 1, None), b"").rstrip(b"\n"))[:SHOWN]
 
-    def check(self, events: int, by: JournalChecker) -> tuple[bool, str, list[str]]:
-        """Returns whether the journal is legal, which it isn't without events, the verdict in a line, and lines that explain why it is
-        illegal. RunFailed where the checker doesn't accept it."""
-        if not events:
-            return False, "empty: no huge page was followed", []
+    def check(self, by: JournalChecker) -> Check:
+        """Checks whether the journal is legal. RunFailed where the checker doesn't accept it."""
         verdict = by.check(self.descriptor)
         if not verdict.legal and verdict.line is None:
             raise RunFailed(f"{escape(by.path)} doesn't take the journal of {self.size} bytes: {escape(verdict.text)}")
-        line = f": {self.line(verdict.line)}" if verdict.line and not verdict.why else ""
-        return verdict.legal, f"{verdict.text}{line} ({events} events)", [escape(each) for each in text_lines(verdict.why)]
+        shown = [f"line {verdict.line}: {self.line(verdict.line)}"] if verdict.line and not verdict.why else []
+        return Check(verdict.line, shown + [escape(each) for each in text_lines(verdict.why)])
 
 
 class Outputs:

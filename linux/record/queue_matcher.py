@@ -3,6 +3,7 @@
 from __future__ import annotations
 
 from .mappings import MappingEvents
+from .reasons import Count, Doubt, Omission
 from .records import Kind
 from .state import Page
 
@@ -27,20 +28,25 @@ class QueueMatcher(MappingEvents):
                 self._emit_leave(page, queue)
         for page in self.joining.values():
             if page.folio not in queue and page in self.queue and not page.is_freed:
-                self._postpone_join(page)
+                self.move_to_end({page})  # its allocation put it into our queue, but it is not in the kernel's yet
         found = [self.at.get(folio) for folio in queue]
         self._reorder([page for page in found if page and page in self.queue])
         skip = set(self.joining.values())
-        mine = [page for page in self.queue if not page.omission and page not in skip]
-        kernels = [page for page in found if page and not page.omission and page not in skip]
+        mine = [page for page in self.queue if not page.is_omitted and page not in skip]
+        kernels = [page for page in found if page and not page.is_omitted and page not in skip]
         self._count(mine != kernels)
 
     def _count(self, differs: bool) -> None:
         """Counts a comparison, unless something runs that may have changed the queue in a way that isn't emitted yet."""
         if not any(call.kind is Kind.COLLAPSED or any(self.reaches(call, page) for page in self.spaces.get(call.space, ()))
                    for call in self.pending.values()):
-            self.tallies["queues compared"] += 1
-            self.tallies["queues that differ"] += differs
+            self.tallies[Count.QUEUES_COMPARED] += 1
+            self.tallies[Doubt.QUEUES if self.is_doubted else Count.QUEUES_DIFFER] += differs
+            if not differs:
+                self.end_doubt()
+                for page in self.queue:
+                    if page not in self.joining.values():
+                        page.join = None  # its place is known
 
     def _is_journal_queue(self, queue: list[int]) -> bool:
         """Returns whether a copy equals the journal's queue and nothing runs that it could show: the usual case, and
@@ -58,10 +64,9 @@ class QueueMatcher(MappingEvents):
         for folio in queue:
             if folio in made and made[folio] in self.pending:
                 self.apply(self.pending.pop(made[folio]), queue)
-                self.tallies["collapses followed before their end"] += 1
                 continue
             page = self.at.get(folio)
-            if not page or folio in own_queue:
+            if not page or folio in own_queue or page.is_taken:
                 continue
             for call in self.calls_reaching(page):
                 if page not in self.queue:
@@ -69,7 +74,7 @@ class QueueMatcher(MappingEvents):
             if page not in self.queue and page.is_live:
                 self.begin_end(page, queue)
             if page not in self.queue and page.is_live:
-                self.omit(page, "queued for no reason seen")
+                self.omit(page, Omission.UNKNOWN_JOIN)
 
     def _emit_leave(self, page: Page, queue: list[int]) -> None:
         """Emits the event by which a page of our queue has left the kernel's."""
@@ -77,7 +82,6 @@ class QueueMatcher(MappingEvents):
         calls_reaching = self.calls_reaching(page)
         if not page.used_subpages():  # its last pin has gone, and the record of its free comes
             self.last_unpin(self.task, page)
-            self.tallies["pages followed before the record of their free"] += 1
         elif calls_reaching:  # a call that still runs has freed it
             page.is_freed = True
             self.apply_early(calls_reaching[0], page, queue)
@@ -85,22 +89,23 @@ class QueueMatcher(MappingEvents):
             page.is_freed = True
             self.end_early(page, queue)
         elif page.is_perhaps_taken:
-            self.omit(page, "joined at its fault while a scan ran, which perhaps took it")
+            self.omit(page, Omission.PERHAPS_TAKEN)
             self.dequeue(page)
         elif not running:
-            why = "split by a migration (M)" if page.freed_frames else "perhaps a collapse (K) without a record"
-            why = "perhaps a scan that isn't followed" if self.is_missing else why
-            self.omit(page, f"left the queue unseen: {why}")
+            why = Omission.SPLIT_BY_MIGRATION if page.freed_frames else Omission.UNSEEN_COLLAPSE
+            self.omit(page, Omission.UNSEEN_SCAN if self.is_missing else why)
             self.dequeue(page)
 
-    def _postpone_join(self, page: Page) -> None:
-        """Makes a page the newest: its allocation put it into our queue, but it is not in the kernel's yet."""
-        at = self.place_of_join(page)
-        if page.join and at >= 0:
-            self.lines.latest.append(self.lines.latest.pop(at))
-            for queue in (self.queue, self.journal_queue):
-                queue.remove(page)
-                queue.append(page)
+    def move_to_end(self, later: set[Page]) -> None:
+        """Moves the events of pages, from their joins on, to the journal's end, unless one is final."""
+        places = {page.number: self.place_of_join(page) for page in later}
+        if not later or min(places.values()) < 0:
+            return
+        lines, first = self.lines.latest, min(places.values())
+        late = {i for i in range(first, len(lines)) if i >= places.get(lines[i].page, len(lines))}
+        self.lines.latest[first:] = [lines[i] for i in sorted(range(first, len(lines)), key=lambda i: i in late)]
+        for queue in (self.queue, self.journal_queue):
+            queue.sort(key=lambda page: page in later)  # stable: the later ones go to the end
 
     def _reorder(self, kernels: list[Page]) -> None:
         """Moves events of a page to an earlier place: pages of two tasks may join in another order than that in which
@@ -121,4 +126,3 @@ class QueueMatcher(MappingEvents):
                 queue.insert(queue.index(other), page)
             mine.remove(page)
             mine.insert(i, page)
-            self.tallies["pages whose order the kernel's queue showed"] += 1

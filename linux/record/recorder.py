@@ -4,13 +4,15 @@ from __future__ import annotations
 
 import ctypes
 import errno
+import math
 import os
 import threading
 import time
 from argparse import Namespace
-from contextlib import suppress
+from contextlib import closing, suppress
 from dataclasses import dataclass
-from typing import Iterator, Sequence
+from functools import partial
+from typing import Callable, Iterator, Sequence
 
 from ..common.errors import RunFailed, Unavailable
 from ..common.files import COLLAPSE_SLEEP, COMPACT, PMD_ORDER, PTES_NONE, SWITCH, read, size_folder, write
@@ -23,6 +25,7 @@ from ..common.numa import numa_frames
 from ..common.reader import Reader
 from ..common.second_look import SecondLook
 from .commands import PAUSE, Commands, Interrupts
+from .reasons import Doubt
 from .records import HEAD, SET, Kind
 from .scratch import FOLDER
 from .store import Store
@@ -71,36 +74,18 @@ class Track:
         self._library.thp_record_close(self._recorder)
 
 
-class ContentLooks:
-    """Looks at the contents of control groups' huge pages, at one as often as at the other: which subpages have data, and which are
-    zero-filled."""
-
-    def __init__(self, memory: KernelMemory, paths: Sequence[str], orders: Sequence[int], every: float) -> None:
-        self._memory, self._paths, self._orders, self._every = memory, paths, orders, every
-        self._due = time.monotonic() + every
-
-    def look_if_due(self) -> dict[str, list[bytes]]:
-        """Returns for each group, by its path, the records of what its pages contain; nothing before the time of the next look."""
-        if time.monotonic() < self._due:
-            return {}
-        out = {path: list(self._look_at(path)) for path in self._paths}
-        self._due = time.monotonic() + self._every
-        return out
-
-    def _look_at(self, path: str) -> Iterator[bytes]:
-        began = time.monotonic_ns()
-        reader = Reader(self._memory, min(self._orders) < PMD_ORDER, 1, memory=MOST_MEMORY)
-        try:
-            reader.read_processes([number for number in members(path) if number != os.getpid()])
-            reader.read_all()
-            SecondLook(reader).take()
-            now = time.monotonic_ns()
-            for frame, folio in reader.folios.items():
-                if folio.order in self._orders:
-                    head = HEAD.pack(Kind.CONTENTS, now, 0, 0, self._memory.folio(frame), began, *[0] * 8, 2 * SET // 8, 0)
-                    yield head + (folio.known & ~folio.zero).to_bytes(SET, "little") + folio.zero.to_bytes(SET, "little")
-        finally:
-            reader.close()
+def look_at_contents(memory: KernelMemory, path: str, orders: Sequence[int]) -> Iterator[bytes]:
+    """Looks at what a control group's huge pages contain; yields a record of each: the subpages with data, the zero-filled ones."""
+    began = time.monotonic_ns()
+    with closing(Reader(memory, min(orders) < PMD_ORDER, 1, memory=MOST_MEMORY)) as reader:
+        reader.read_processes([number for number in members(path) if number != os.getpid()])
+        reader.read_all()
+        SecondLook(reader).take()
+        now = time.monotonic_ns()
+        for frame, folio in reader.folios.items():
+            if folio.order in orders:
+                head = HEAD.pack(Kind.CONTENTS, now, 0, 0, memory.folio(frame), began, *[0] * 8, 2 * SET // 8, 0)
+                yield head + (folio.known & ~folio.zero).to_bytes(SET, "little") + folio.zero.to_bytes(SET, "little")
 
 
 @dataclass(frozen=True)
@@ -108,26 +93,21 @@ class Recording:
     """The records of each queue, and what else is known of them."""
 
     tracks: list[Track]
-    gaps: list[str]  # what makes the records incomplete, in words
+    doubts: dict[Doubt, int]  # what makes the records incomplete
     statuses: list[str]  # how the commands ended
     ended: str  # why they were ended; "" where they ended by themselves
     lacking: list[str]  # what this kernel doesn't report
     threshold: int | None  # of zero-filled subpages; None: the switch was off
 
 
-def name_gaps(lost: int, missed: int, is_full: bool) -> list[str]:
-    """Returns what makes records incomplete, in words: those that found no room, runs of trace programs that the kernel left out, the
-    limit of --disk."""
-    out = [f"{lost} records were lost"] if lost else []
-    out += [f"the kernel left out {missed} runs of the trace programs"] if missed else []
-    return [*out, "the records reached the limit of --disk"] if is_full else out
-
-
 class Taker:
-    """Takes the records of all queues, until they take so many bytes on disk (`is_full`)."""
+    """Takes the records of all queues, until they take so many bytes on disk (`is_full`). `look`: yields the records of what the pages
+    of a control group contain; it is called so often."""
 
-    def __init__(self, tracks: Sequence[Track], looks: ContentLooks | None, most: int) -> None:
-        self._tracks, self._looks, self._most = tracks, looks, most
+    def __init__(self, tracks: Sequence[Track], most: int, look: Callable[[str], Iterator[bytes]], every: float | None) -> None:
+        self._tracks, self._most, self._look = tracks, most, look
+        self._every = math.inf if every is None else every
+        self._due = time.monotonic() + self._every
         self.is_full = False
 
     def count(self) -> int:
@@ -137,12 +117,14 @@ class Taker:
     def take(self) -> None:
         """Takes what has come since the last call."""
         self._take_records()
-        found = self._looks.look_if_due() if self._looks else {}
-        if found:
-            self._take_records()
+        if time.monotonic() < self._due:
+            return
+        found = {path: list(self._look(path)) for path in {track.path for track in self._tracks}}
+        self._take_records()
         for track in self._tracks:
-            for record in found.get(track.path, ()) if not self.is_full else ():
+            for record in found[track.path] if not self.is_full else ():
                 track.store.append(record)
+        self._due = time.monotonic() + self._every
 
     def _take_records(self) -> None:
         for track in self._tracks:
@@ -176,14 +158,13 @@ class Recorder:
         threshold = int(read(PTES_NONE)) if os.path.exists(SWITCH) and read(SWITCH).strip() == "1" else None
         folder = os.path.dirname(os.path.abspath(options.records)) if options.records else FOLDER
         room = 1 << (RING // (len(self._paths) * len(nodes))).bit_length() - 1
-        every = options.contents
-        looks = ContentLooks(self._memory, self._paths, options.order, every) if every is not None else None
         tracks: list[Track] = []
         try:
             for path in self._paths:
                 for node in nodes:
                     tracks.append(Track(self._memory, path, node, options.order, room, folder))
-            taker = Taker(tracks, looks, options.disk)
+            look = partial(look_at_contents, self._memory, orders=options.order)
+            taker = Taker(tracks, options.disk, look, options.contents)
             running = Commands(self._keeper, self._paths, taker.take)
             ended = self._run(running, commands, taker)
             return describe(tracks, running, taker.is_full, ended, threshold)
@@ -205,7 +186,6 @@ class Recorder:
                 while not why and running.is_running():
                     time.sleep(PAUSE)
                     taker.take()
-                    running.look_for_groups()
                     why = self._end_reason(begun, taker, interrupts)
                 if why:
                     running.end()
@@ -243,10 +223,11 @@ def describe(tracks: list[Track], running: Commands, is_full: bool, ended: str, 
     inner_pages: dict[str, int] = {}
     for track, each in zip(tracks, counters):
         inner_pages[track.path] = max(inner_pages.get(track.path, 0), each.inner_pages)
-    inner = sum(inner_pages.values())
-    if inner or running.has_inner_groups:
+    if any(inner_pages.values()):
+        inner = sum(inner_pages.values())
         lacking.append(f"control groups were made in a recorded one: {inner} huge pages of their tasks aren't followed")
     if any(each.unfiltered for each in counters):
         lacking.append("more address spaces than can be known: all records were kept from then on")
-    gaps = name_gaps(sum(each.lost for each in counters), sum(each.missed for each in counters), is_full)
-    return Recording(tracks, gaps, running.statuses(), ended, lacking, threshold)
+    lost, missed = sum(each.lost for each in counters), sum(each.missed for each in counters)
+    doubts = {Doubt.LOST: lost, Doubt.MISSED: missed, Doubt.DISK_FULL: is_full * sum(track.store.count for track in tracks)}
+    return Recording(tracks, doubts, running.statuses(), ended, lacking, threshold)

@@ -5,7 +5,6 @@ from __future__ import annotations
 import enum
 import struct
 from dataclasses import dataclass
-from typing import Any
 
 QUEUE_MOST = 500  # pages of a queue that a record carries
 SET = 64  # bytes of a set of subpages
@@ -67,11 +66,6 @@ class Record:
         was split), those by PMD entries, all of them, and how many subpages PTEs map. Counts begin at -1 (include/linux/mm.h)."""
         folio, total, whole, mapped = self.values[5:9]
         return folio if mapped <= _WORD else 0, (whole + 1) & _WORD, (total + 1) & _WORD, mapped & _SUBPAGES
-
-    def to_json(self) -> list[Any]:
-        """Returns the record as JSON can write it."""
-        out = [int(self.kind), self.time, self.task, self.space, list(self.values), self.queue]
-        return out if self.contents is None else [*out, list(self.contents)]
 
 
 def parse_record(raw: bytes, place: int = 0) -> Record:

@@ -3,12 +3,13 @@
 from __future__ import annotations
 
 from dataclasses import dataclass
-from typing import Iterator
+from typing import Collection, Iterator
 
 from ..common.subpages import runs, size
 from .queue_matcher import QueueMatcher
+from .reasons import Count, Doubt, Omission
 from .records import Record
-from .state import Page, Scan
+from .state import CALLERS, Page, Scan
 
 BATCH = 128  # pages that a scan takes at most at a time
 
@@ -33,45 +34,47 @@ class ScanEvents(QueueMatcher):
         """Begins a scan on the queue that its record shows, or on the journal's queue if no copy was complete."""
         if record.queue is None:
             record.queue = [page.folio for page in self.queue]
-            self.tallies["scans whose start no copy showed"] += 1
         else:
             self.match(record.queue)
+        if self.scans:
+            self.begin_doubt(Doubt.OVERLAP)
         joining = [page for page in self.joining.values() if page.folio not in record.queue]
-        self.scans[record.task] = Scan(record, [self.at.get(folio) for folio in record.queue], joining)
+        batches = [*batches_of(*record.values[:2])]
+        pages = [self.at.get(folio) for folio in record.queue]
+        self.scans[record.task] = Scan(record, pages, joining, batches, sum(count for _, count in batches))
 
     def handle_scanned(self, record: Record, observed: list[int] | None = None) -> None:
         """Emits a scan that has ended; `observed`: the queue that shows it, if its end isn't recorded yet."""
         scan = self.scans.pop(record.task, None)
         if not scan:
             return
-        total, freeable = scan.start.values[:2]
         own = record.queue if observed is None else observed
-        if total < min(freeable, BATCH) or not scan.start.queue:
+        if not scan.batches or not scan.start.queue:
             self.match(own)
             return
         self.emitted_until = max(self.emitted_until, min(record.time, self.now))
         queue = record.queue_at_end() if observed is None else observed
         if queue is None:
-            self.tallies["scans not followed"] += 1
+            self.tallies[Count.SCANS_MISSING] += 1
+            self.begin_doubt(Doubt.MISSING)
             self.is_missing = True
+            for page in scan.taken:
+                page.is_taken = False
+                self.omit(page, Omission.UNSEEN_SCAN)
             return
-        self.tallies["scans" if own is not None else "scans whose end the next copy showed"] += 1
+        self.tallies[Count.SCANS] += 1
         self._add_faulted(scan, queue)
         self._emit_frees(scan.pages, queue)
-        places = [queue.index(page.folio) for page in scan.pages[:total] if page and page.is_live and page.folio in queue]
+        places = [queue.index(page.folio) for page in scan.pages[: scan.reach] if page and page.is_live and page.folio in queue]
         self.emit_early_joins(queue[: max(places, default=0)])  # running calls queued these before the scan put pages back
-        self._put_first(scan.pages[:total])
-        found = [self.at.get(folio) for folio in queue]
-        back, stays = [], []
-        for first, count in batches_of(total, freeable):
-            batch = [page for page in scan.pages[first : first + count] if page and page in self.queue]
-            stay = [page for page in found if page and page in batch]
-            self._omit_requeued(scan.start, stay, found)
-            self._emit_batch(record, batch, scan, stay, queue)
-            back += [page for page in stay if not page.omission]
-            stays += stay
+        self._take_before(scan)
+        # what precedes a page that it took, and wasn't taken, has joined later, though that was recorded before
+        self.move_to_end({page for page in self._older([*scan.pages[: scan.reach], *scan.split]) if page.join})
+        found, stays = [self.at.get(folio) for folio in queue], []
+        while scan.batches:
+            stays += self._end_batch(scan, found, queue)
         kernels = [page for page in found if page]
-        self._postpone_joins(kernels, back)
+        self._postpone_joins(kernels, [page for page in stays if not page.is_omitted], scan)
         self._put_between(stays, kernels)
         self.match(own)
 
@@ -82,12 +85,12 @@ class ScanEvents(QueueMatcher):
         if not self.scans:
             return
         own_queue = {page.folio for page in self.queue}
-        for start in [scan.start for scan in self.scans.values()]:
+        for start, reach in [(scan.start, scan.reach) for scan in self.scans.values()]:
             end = start.end and start.end.queue_at_end()
             if not start.end or not end or not start.queue or queue is None or self.now < start.time:
                 continue  # a copy that was begun before the scan shows nothing of it
             made = start.folios_made or {}  # in these folios the scan's end shows other pages
-            back = [folio for folio in end if folio in start.queue and folio not in made]
+            back = [folio for folio in end if folio in start.queue[:reach] and folio not in made]
             new = [folio for folio in queue if folio not in own_queue and folio not in start.queue
                    and made.get(folio, 0) <= self.now]
             if not {*back} <= {*queue}:
@@ -96,28 +99,70 @@ class ScanEvents(QueueMatcher):
                 start.end.is_applied = True
                 self.handle_scanned(start.end, queue)
 
-    def _emit_batch(self, record: Record, pages: list[Page], scan: Scan, stay: list[Page], queue: list[int]) -> None:
-        """Emits one batch of a scan: `stay` are the pages put back, in the kernel's order."""
+    def _batch(self, scan: Scan, first: int, count: int, found: list[Page | None]) -> list[Page]:
+        """Returns the pages of a batch: those that were oldest at the scan's start, and of the last batch all that the scan has split. If
+        these are too many, it has left some of the first, which are in the queue at its end."""
+        batch = [page for page in scan.pages[first : first + count] if page and page in self.queue]
+        if not scan.batches:
+            batch += [page for page in scan.split if page in self.queue and page not in scan.pages[: first + count]]
+        left = [page for page in batch if page in found][: max(len(batch) - count, 0)]
+        return [page for page in batch if page not in left]
+
+    def _end_batch(self, scan: Scan, found: list[Page | None], queue: list[int]) -> list[Page]:
+        """Emits a batch of a scan by the queue after it; returns the pages put back, in the kernel's order."""
+        first, count = scan.batches.pop(0)
+        batch = [page for page in scan.taken if page.is_live] or self._batch(scan, first, count, found)
+        for page in batch:
+            page.last_change = max(scan.start.end.time if scan.start.end else 0, self.now)
+        stay = [page for page in found if page and page in batch]
+        if len(stay) > 1 and stay == [page for page in reversed(scan.pages) if page in stay]:
+            self.tallies[Count.REVERSED] += 1
+        self._omit_requeued(scan.start, stay, found)
+        self._look_for_calls(batch, stay, queue)
+        taken, scan.taken = batch if scan.taken else self._take(scan.start.task, batch), []
+        self._try_batch(scan.start.task, taken, stay)
+        return stay
+
+    def _look_for_calls(self, pages: list[Page], stay: list[Page], queue: list[int]) -> None:
+        """Emits partial unmaps of running calls that no event shows yet, and that a batch shows: `stay` are the pages put back."""
         for page in pages:
-            page.last_change = max(record.time, self.now)
-            if page in stay or self._is_too_full(page):  # perhaps a running call has made a partial unmap that no event shows yet
+            if page in stay or self._is_too_full(page):
                 for call in self.calls_reaching(page):
                     if not page.is_partly_mapped:
                         self.apply_early(call, page, queue)
-        if len(stay) > 1 and stay == [page for page in reversed(pages) if page in stay]:
-            self.tallies["scans that put back two pages or more, turned around (E)"] += 1
-        taken, tried, back = pages, pages[::-1], stay  # the kernel tries the newest first
-        if self.straighten:
-            taken, back = self._straighten(pages, scan, stay)
-            tried = taken
+
+    def _take(self, task: int, pages: list[Page]) -> list[Page]:
+        """Emits that a scan takes pages; returns them in the journal's order."""
+        taken = self._order_by_journal(pages)
+        self.open_batch(task)
         for page in taken:
-            self.emit(record.task, page, "taken")
-        for page in pages:
+            self.emit(task, page, "taken")
             self.dequeue(page)
-        for page in tried:
-            self._emit_try(record, page, page in stay)
+            page.is_taken = True
+        return taken
+
+    def _take_before(self, scan: Scan) -> None:
+        """Emits what scans that still run have done before this one took its pages: they took older ones, none of which was in the queue
+        at this scan's start."""
+        queue, older = scan.start.queue or [], self._older(scan.pages[: scan.reach])
+        for other in [*self.scans.values()]:
+            has_room = sum(bool(each.taken) for each in self.scans.values()) < CALLERS - 1
+            for first, count in [*other.batches] if has_room else ():
+                mine = [page for page in other.pages[first : first + count] if page and page in self.queue]
+                if not older & {*mine} or any(page in scan.pages for page in mine):
+                    continue
+                if other.batches[0] != (first, count):
+                    self._end_batch(other, [self.at.get(folio) for folio in queue], queue)
+                other.taken = self._take(other.start.task, mine)
+
+    def _try_batch(self, task: int, taken: list[Page], stay: list[Page]) -> None:
+        """Emits the tries of a batch, and the put-backs: `stay` are the pages put back, in the kernel's order."""
+        back = [page for page in taken if page in stay]
+        for page in taken:
+            page.is_taken = False
+            self._emit_try(task, page, page in stay)
         for page in back:
-            self.emit(record.task, page, "back")
+            self.emit(task, page, "back")
             page.join = None
         self.queue += stay
         self.journal_queue += back
@@ -130,7 +175,7 @@ class ScanEvents(QueueMatcher):
         if places and places[-1] - places[0] >= len(places):
             for page in stay:
                 if page.partly_since >= start.time:
-                    self.omit(page, "found in use by a scan, and queued again while it ran (U)")
+                    self.omit(page, Omission.REQUEUED)
 
     def _add_faulted(self, scan: Scan, queue: list[int]) -> None:
         """Adds pages that joined at their faults after the scan's start was recorded and before it took its pages: it takes
@@ -144,7 +189,6 @@ class ScanEvents(QueueMatcher):
                 page.is_perhaps_taken = True
             else:
                 scan.pages.append(page)
-                self.tallies["pages that joined between a scan's start and its taking"] += 1
 
     def _emit_frees(self, pages: list[Page | None], queue: list[int]) -> None:
         """Emits the frees of pages during a scan that no event shows yet: a running call freed the page, or a process
@@ -155,13 +199,6 @@ class ScanEvents(QueueMatcher):
                     self.apply_early(call, page, queue)
             if page.is_live and self.is_ending(page):
                 self.end_early(page, queue)
-
-    def _put_first(self, pages: list[Page | None]) -> None:
-        """Moves events of pages that the scan didn't take, and that precede one that it took, after that page's join: it took
-        the oldest pages, so these joined later, though the record of their join came first."""
-        taken = [i for i, page in enumerate(self.journal_queue) if page in pages]
-        early = {page for page in self.journal_queue[: max(taken, default=0)] if page not in pages and page.join}
-        self._move_to_end(early, "pages that joined after a scan's taking, moved after it")
 
     def _put_between(self, back: list[Page], kernels: list[Page]) -> None:
         """Gives the pages put back their places among those that joined while the scan ran: Linux 7 puts pages back one by
@@ -179,87 +216,82 @@ class ScanEvents(QueueMatcher):
         given = size(page.freed_frames & page.held)
         return bool(given) and not page.is_freed and given <= (self.underused or page.subpages)
 
-    def _postpone_joins(self, kernels: list[Page], stay: list[Page]) -> None:
+    def _postpone_joins(self, kernels: list[Page], stay: list[Page], scan: Scan) -> None:
         """Moves events of pages that joined while the scan ran, and follow the pages put back, after the scan."""
         if not stay:
             return
         edge, mine = max(map(kernels.index, stay)), self.queue.index(stay[0])
-        later = {page for page in kernels[edge + 1 :] if page in self.queue[:mine]}
-        self._move_to_end(later, "pages that joined while a scan ran, moved after it")
+        self.move_to_end({page for page in kernels[edge + 1 :] if page in self.queue[:mine] and page not in scan.pages})
 
-    def _move_to_end(self, later: set[Page], what: str) -> None:
-        """Moves the events of pages, from their joins on, to the journal's end, unless one is final."""
-        places = {page: self.place_of_join(page) for page in later}
-        if not later or min(places.values()) < 0:
-            return
-        lines = self.lines.latest
-        begins = {page.number: place for page, place in places.items()}
-        late = {i for i, line in enumerate(lines) if line.page in begins and i >= begins[line.page]}
-        sooner = [line for i, line in enumerate(lines) if i not in late]
-        self.lines.latest = sooner + [lines[i] for i in sorted(late)]
-        for queue in (self.queue, self.journal_queue):
-            queue.sort(key=lambda page: page in later)  # stable: the later ones go to the end
-        self.tallies[what] += len(later)
+    def _order_by_journal(self, pages: list[Page]) -> list[Page]:
+        """Returns the pages of a batch in the journal's order. If others are older there, though not in the kernel's queue, since the
+        kernel has put pages back in reverse order (E), all pages of the queue are left out; if it isn't known which are, the older."""
+        mine = [page for page in self.journal_queue if page in pages and not page.is_omitted]
+        if {*mine} != self._oldest(self.journal_queue, len(mine)):
+            if {*mine} == self._oldest(self.queue, len(mine)):
+                for page in self.queue:
+                    self.omit(page, Omission.PART_SCANNED)
+            elif self.is_doubted:
+                for page in self._older(pages):
+                    self.omit(page, Omission.OVERLAPPED)
+        return [page for page in self.journal_queue if page in pages]
 
-    def _straighten(self, pages: list[Page], scan: Scan, stay: list[Page]) -> tuple[list[Page], list[Page]]:
-        """Returns the pages of a batch in the journal's order: those taken, those put back."""
-        mine = {page for page in pages if not page.omission}
-        oldest = [page for page in self.journal_queue if not page.omission][: len(mine)]
-        if len(pages) < len([page for page in self.queue if page in scan.pages]) and set(oldest) != mine:
-            for page in self.queue:
-                self.omit(page, "a scan of a part of the queue")
-        taken = [page for page in self.journal_queue if page in pages]
-        return taken, [page for page in taken if page in stay]
+    def _oldest(self, queue: list[Page], count: int) -> set[Page]:
+        """Returns the oldest pages of a queue that aren't left out."""
+        return {*[page for page in queue if not page.is_omitted][:count]}
 
-    def _emit_try(self, record: Record, page: Page, stays: bool) -> None:
+    def _older(self, pages: Collection[Page | None]) -> set[Page]:
+        """Returns the pages of the journal's queue that precede one of these pages, and are none of them."""
+        last = max((i for i, page in enumerate(self.journal_queue) if page in pages), default=0)
+        return {page for page in self.journal_queue[:last] if page not in pages}
+
+    def _emit_try(self, task: int, page: Page, stays: bool) -> None:
         """Emits the try of a page that was taken."""
         page.is_tried = True
         if stays and not page.is_partly_mapped:
-            self.omit(page, "put back, though not partly mapped: another task held its lock (L)")
+            self.omit(page, Omission.LOCKED)
         if stays:
-            self.hold(record.task, page)
-            self.emit(record.task, page, "pinned")
+            self.hold(task, page)
+            self.emit(task, page, "pinned")
         elif page.is_freed:
             pass  # its last unmap has an event
         elif page.is_partly_mapped or page.freed_frames:
-            self._emit_split(record, page)
+            self._emit_split(task, page)
         else:
             if not page.is_seen or page.subpages - size(page.written) > (self.underused or 0):
-                self._emit_writes(record, page, page.used_subpages())
-            self.emit(record.task, page, "used")
+                self._emit_writes(task, page, page.used_subpages())
+            self.emit(task, page, "used")
 
-    def _emit_writes(self, record: Record, page: Page, bits: int) -> None:
+    def _emit_writes(self, task: int, page: Page, bits: int) -> None:
         """Emits the writes that the kernel's verdict implies: no tracepoint reports writes."""
         if self.underused is not None:
             for first, count in runs(bits & ~page.written):
-                self.emit(record.task, page, "write", first, count)
+                self.emit(task, page, "write", first, count)
             page.written |= bits
 
-    def _emit_split(self, record: Record, page: Page) -> None:
+    def _emit_split(self, task: int, page: Page) -> None:
         """Emits the split of a page, by the frames that it gave back."""
         given, used = page.freed_frames & page.held, page.used_subpages()
         if not used:  # only the scan held it any more: the model frees it by its last unmap
-            self.tallies["last unmaps while a scan held the page (R)"] += 1
-            self.emit(record.task, page, "unpin", outcome="freed", given=page.held)
+            self.tallies[Count.HELD_BY_SCAN] += 1
+            self.emit(task, page, "unpin", outcome="freed", given=page.held)
             self.remove_page(page)
             return
         if page.held & ~used & ~given:
-            self.omit(page, "a frame was held beyond the split")
+            self.omit(page, Omission.HELD_BEYOND_SPLIT)
         if self.underused is not None and not page.is_partly_mapped and size(given) <= self.underused:
-            self.omit(page, "written while a scan split it (Z)")
+            self.omit(page, Omission.WRITTEN)
         zeros = given & used
         if self.underused is not None:
             for first, count in runs(zeros & page.written):
-                self.emit(record.task, page, "zero", first, count)
-            self._emit_writes(record, page, used & ~given)
+                self.emit(task, page, "zero", first, count)
+            self._emit_writes(task, page, used & ~given)
         elif zeros:
-            self.tallies["splits that gave mapped zero-filled subpages back with the switch off (B)"] += 1
-            given &= ~used if self.straighten else -1
-        self.let_go(record.task, page)
-        self.emit(record.task, page, "split", given=given)
+            self.tallies[Count.ZEROS_BACK] += 1
+            given &= ~used
+        self.let_go(task, page)
+        self.emit(task, page, "split", given=given)
         page.held &= ~given
-        for _ in range(page.whole):
-            page.own.add(page.every)
-        page.whole, page.split = 0, True
+        page.split = True
         for mapping in page.maps.values():
             mapping.whole = False

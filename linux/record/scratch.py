@@ -5,6 +5,7 @@ from __future__ import annotations
 import itertools
 import os
 import tempfile
+from functools import partial
 from typing import IO, Iterable, Iterator
 
 from ..common.errors import RunFailed
@@ -45,25 +46,22 @@ class ScratchFile:
         except OSError as error:
             raise RunFailed(f"{self._what} can't be written to disk: {error.strerror}") from error
 
-    def append_lines(self, lines: Iterable[str]) -> None:
-        """Writes ASCII lines, given without their ends."""
-        rest = iter(lines)
-        while piece := "".join(f"{line}\n" for line in itertools.islice(rest, LINES)):
-            self.append(piece.encode("ascii"))
+    def append_lines(self, lines: Iterable[str]) -> int:
+        """Writes ASCII lines, given without their ends; returns how many."""
+        rest, count = iter(lines), 0
+        while piece := list(itertools.islice(rest, LINES)):
+            self.append("".join(f"{line}\n" for line in piece).encode("ascii"))
+            count += len(piece)
+        return count
+
+    def open_again(self) -> IO[bytes]:
+        """Opens it once more, to be read from its start."""
+        return open(f"/proc/self/fd/{self.descriptor}", "rb", buffering=PIECE)
 
     def pieces(self) -> Iterator[bytes]:
         """Yields its content."""
-        at = 0
-        while piece := os.pread(self.descriptor, PIECE, at):
-            yield piece
-            at += len(piece)
-
-    def lines(self) -> Iterator[bytes]:
-        """Yields its lines without their ends."""
-        rest = b""
-        for piece in self.pieces():
-            *lines, rest = (rest + piece).split(b"\n")
-            yield from lines
+        with self.open_again() as file:
+            yield from iter(partial(file.read, PIECE), b"")
 
     def close(self) -> None:
         """Removes it."""

@@ -3,21 +3,24 @@ far. Of a freed page one byte remains."""
 
 from __future__ import annotations
 
+import functools
+import itertools
+import operator
 from collections import Counter as Tallies
 from collections import defaultdict
 from dataclasses import dataclass, field
-from typing import Iterator
+from typing import Iterable, Iterator, Sequence
 
 from ..common.files import BASE, PMD_ORDER
 from ..common.journal import FILLING, Event
 from ..common.subpages import bits_of, size
 from .lines import JournalLine, JournalLines
+from .reasons import Doubt, Omission, Reason
 from .records import Kind, Record
 
 MOST_BLOCKS, CALLERS = 4096, 64  # of a journal's node (docs/FORMATS.md)
+FOREVER = 1 << 64
 SPARE_BLOCKS = 8  # of a journal's node, beyond the pages that lived at once
-NEVER_MAPPED = "another thread's fault was first"  # why such a page has no events; it isn't counted
-TOO_OLD = "joined the queue too long ago for its place to be changed"
 
 
 @dataclass(eq=False)
@@ -32,45 +35,14 @@ class Mapping:
     since: int
 
 
-class MapCounts:
-    """How often each subpage is mapped, as planes of bits: bit i of plane k has the weight 2 ** k."""
-
-    __slots__ = ("_planes",)
-
-    def __init__(self) -> None:
-        self._planes: list[int] = []
-
-    def add(self, bits: int) -> None:
-        """Adds a mapping of these subpages."""
-        at = 0
-        while bits:
-            if at == len(self._planes):
-                self._planes.append(0)
-            self._planes[at], bits = self._planes[at] ^ bits, self._planes[at] & bits
-            at += 1
-
-    def take(self, bits: int) -> None:
-        """Removes a mapping of these subpages, each of which is mapped."""
-        at = 0
-        while bits and at < len(self._planes):
-            self._planes[at], bits = self._planes[at] ^ bits, bits & ~self._planes[at]
-            at += 1
-
-    def used_subpages(self) -> int:
-        """Returns the subpages that are mapped."""
-        out = 0
-        for plane in self._planes:
-            out |= plane
-        return out
-
-    def total(self) -> int:
-        """Returns all mappings of all subpages."""
-        return sum(size(plane) << at for at, plane in enumerate(self._planes))
+def union_of(sets: Iterable[int]) -> int:
+    """Returns the union of sets of subpages."""
+    return functools.reduce(operator.or_, sets, 0)
 
 
 @dataclass(eq=False)
 class Page:
-    """A huge page from its allocation on. Sets of subpages are numbers. `own`: mappings by PTEs."""
+    """A huge page from its allocation on. Sets of subpages are numbers."""
 
     number: int
     folio: int
@@ -78,15 +50,14 @@ class Page:
     every: int  # all of them
     held: int
     born: int  # when its allocation was recorded
-    own: MapCounts = field(default_factory=MapCounts)
-    whole: int = 1
-    maps: dict[int, Mapping] = field(default_factory=dict)
+    maps: dict[int, Mapping] = field(default_factory=dict)  # by address space
     pins: int = 0
+    is_taken: bool = False  # by a scan that runs
     is_partly_mapped: bool = False
     partly_since: int = 0  # when that was recorded
     is_live: bool = True
     split: bool = False
-    omission: str = ""  # why it is left out
+    is_omitted: bool = False  # from the journal
     is_freed: bool = False
     freed_frames: int = 0
     written: int = 0
@@ -97,50 +68,52 @@ class Page:
     is_perhaps_taken: bool = False  # it joined at its fault while a scan ran, which took it then or not
     last_change: int = 0  # when the last call that reached it was recorded
     join: JournalLine | None = None  # the event by which it joined the queue
-    events: int = 0  # how many were emitted
-    filling: int = 0  # of these, the ones that only version 3 of a journal has
 
     def used_subpages(self) -> int:
         """Returns the subpages that are mapped."""
-        return self.every if self.whole else self.own.used_subpages()
+        return union_of(mapping.bits for mapping in self.maps.values())
 
     def counts(self) -> tuple[int, int, int]:
         """Returns what the kernel counts: mappings by PMD entries, all mappings, subpages that PTEs map. A page below
         their size is mapped by PTEs alone."""
-        if self.subpages == 1 << PMD_ORDER:
-            return self.whole, self.whole + self.own.total(), size(self.own.used_subpages())
-        return 0, self.own.total() + self.whole * self.subpages, size(self.used_subpages())
+        has_pmd = self.subpages == 1 << PMD_ORDER
+        parts = [mapping.bits for mapping in self.maps.values() if not (has_pmd and mapping.whole)]
+        whole = len(self.maps) - len(parts)
+        return whole, whole + sum(map(size, parts)), size(union_of(parts))
 
 
 @dataclass(eq=False)
 class Scan:
-    """A scan that runs: the record of its start, the pages in the queue then, oldest first (None: one of which nothing is
-    known), and those that joined at that time."""
+    """A scan that runs: the record of its start, the pages in the queue then, oldest first (None: one of which nothing is known), and
+    those that joined at that time."""
 
     start: Record
     pages: list[Page | None]
     joining: list[Page]
+    batches: list[tuple[int, int]]  # that aren't emitted, as (first, count)
+    reach: int  # of the pages, how many it may take
+    split: list[Page] = field(default_factory=list)  # the pages that it has split so far
+    taken: list[Page] = field(default_factory=list)  # by the first of these batches, if that is emitted
 
 
 @dataclass(eq=False)
 class State:
-    """What the records so far have shown; a node of a journal (common.journal.Node). `straighten`: emit tries and put-backs in the
-    order of taking (E), and splits without mapped frames while the switch is off (B)."""
+    """What the records so far have shown; a node of a journal (common.journal.Node). Its tries and put-backs are in the order of
+    taking, where the kernel's are reversed (E); with the switch off, its splits keep the frames of mapped subpages (B)."""
 
     order: int
     underused: int | None  # the threshold of zero-filled subpages; None: the switch is off
-    straighten: bool
     page_size: int = 64  # bytes of struct page
     folios: tuple[range, ...] = ()  # where those of the queue's NUMA node are; none: it has pages of all nodes
+    orders: Sequence[int] = ()  # that are followed, by this journal or another
     lines: JournalLines = field(default_factory=JournalLines)  # the journal
-    tallies: dict[str, int] = field(default_factory=Tallies)  # what was observed, inferred and left out, by words
+    tallies: dict[Reason, int] = field(default_factory=Tallies)  # what was observed, inferred and left out
+    event_counts: dict[str, int] = field(default_factory=Tallies)  # by words
     never_mapped: int = 0  # pages
     left_out: int = 0  # pages, for other reasons
-    events: int = 0  # the lines of pages that aren't left out
-    filling: int = 0  # of these, the ones that only version 3 of a journal has
     at: dict[int, Page] = field(default_factory=dict)  # the pages that live, by folio
     queue: list[Page] = field(default_factory=list)  # the kernel's, oldest first
-    journal_queue: list[Page] = field(default_factory=list)  # the journal's, which differs where it is straightened
+    journal_queue: list[Page] = field(default_factory=list)  # the journal's, which differs by E
     joining: dict[int, Page] = field(default_factory=dict)  # pages that join the queue before their task's next record
     spaces: dict[int, dict[Page, Mapping]] = field(default_factory=lambda: defaultdict(dict))  # by address space
     ends: dict[int, Record] = field(default_factory=dict)  # the next end of each address space that has pages
@@ -149,6 +122,8 @@ class State:
     is_missing: bool = False  # a scan wasn't followed
     now: int = 0  # the time of the current record
     task: int = 0  # and its task
+    _doubts: list[tuple[Doubt, int, int]] = field(default_factory=list)  # why the order of events isn't known, from when to when
+    _equal: int = 0  # when a copy of the queue was equal to the journal's
     _omitted: bytearray = field(default_factory=bytearray)  # of each page, whether it is left out
     _callers: dict[int, int] = field(default_factory=dict)  # the journal's numbers of tasks
     _live: int = 0
@@ -162,37 +137,63 @@ class State:
     @property
     def fills(self) -> bool:
         """Whether an event is one that only version 3 of a journal has."""
-        return self.filling > 0
+        return any(self.event_counts[word] for word in FILLING)
 
     @property
     def pages(self) -> int:
         """How many pages were mapped."""
         return len(self._omitted) - self.never_mapped
 
+    def timed_texts(self) -> Iterator[tuple[int, str]]:
+        """Returns the journal's lines, without the pages that are left out, each after the time (ns) of the record that showed it."""
+        return self.lines.timed_texts(self._omitted)
+
     def texts(self) -> Iterator[str]:
         """Returns the journal's lines, without the pages that are left out."""
-        return (text for _, text in self.lines.timed_texts(self._omitted))
+        return (text for _, text in self.timed_texts())
 
     def times(self) -> Iterator[int]:
         """Returns the time (ns) of each line. An event is shown by a later record at times, and lines are reordered: none is before
         the line above it."""
-        latest = 0
-        for time, _ in self.lines.timed_texts(self._omitted):
-            latest = max(latest, time)
-            yield latest
+        return itertools.accumulate((time for time, _ in self.timed_texts()), max)
+
+    def begin_doubt(self, why: Doubt) -> None:
+        """Notes that the order of events isn't known, from the last copy of the queue that was equal on to the next one."""
+        if not self.is_doubted:
+            self._doubts.append((why, self._equal, FOREVER))
+
+    def end_doubt(self) -> None:
+        """Notes that a copy of the queue is equal."""
+        self._equal = self.now
+        if self.is_doubted:
+            self._doubts[-1] = (*self._doubts[-1][:2], self.now)
+
+    @property
+    def is_doubted(self) -> bool:
+        """Whether the order of events isn't known."""
+        return bool(self._doubts) and self._doubts[-1][2] == FOREVER
+
+    def doubt_at(self, time: int) -> Doubt | None:
+        """Returns why the events at a time are in doubt."""
+        return next((why for why, begin, end in self._doubts if begin <= time <= end), None)
 
     def emit(
         self, task: int, page: Page, word: str, first: int = 0, count: int = 0, outcome: str = "", given: int = 0
     ) -> None:
         """Emits an event of a page."""
-        caller = self._callers.setdefault(task, len(self._callers) % CALLERS)
-        event = Event(caller, word, page.number, first, count, outcome, given)
+        event = Event(self.caller_of(task), word, page.number, first, count, outcome, given)
         self.lines.add(JournalLine(page.number, event.text(), self.now))
-        self.tallies[f"events {word}"] += 1
-        if not page.omission:
-            fills = word in FILLING
-            page.events, page.filling = page.events + 1, page.filling + fills
-            self.events, self.filling = self.events + 1, self.filling + fills
+        self.event_counts[word] += 1
+
+    def caller_of(self, task: int) -> int:
+        """Returns the journal's number of a task; several may have one."""
+        return self._callers.setdefault(task, len(self._callers) % CALLERS)
+
+    def open_batch(self, task: int) -> None:
+        """Gives a task a number that no other task has whose scan has taken pages; there are fewer than CALLERS of these."""
+        busy = {self.caller_of(scan.start.task) for scan in self.scans.values() if scan.taken and scan.start.task != task}
+        if self.caller_of(task) in busy:
+            self._callers[task] = min({*range(CALLERS)} - busy)
 
     def is_followed(self, folio: int) -> bool:
         """Returns whether the queue is the one of a page's NUMA node."""
@@ -225,26 +226,19 @@ class State:
             if page in queue:
                 queue.remove(page)
 
-    def omit(self, page: Page, why: str) -> None:
+    def omit(self, page: Page, why: Omission) -> None:
         """Leaves a page out of the journal."""
-        if not page.omission:
-            self._leave_out(page, why)
+        if not page.is_omitted:
+            page.is_omitted = self._omitted[page.number] = True
             self.left_out += 1
-            self.tallies[f"pages left out: {why}"] += 1
+            self.tallies[why] += 1
 
     def discard(self, page: Page) -> None:
-        """Forgets a page that was never mapped."""
-        if page.omission:
-            self.left_out -= 1
-        else:
-            self._leave_out(page, NEVER_MAPPED)
+        """Forgets a page that was never mapped: another thread's fault was first."""
+        self.left_out -= page.is_omitted
+        page.is_omitted = self._omitted[page.number] = True
         self.never_mapped += 1
-        self.tallies[f"huge pages given up: {NEVER_MAPPED}"] += 1
         self.remove_page(page)
-
-    def _leave_out(self, page: Page, why: str) -> None:
-        page.omission, self._omitted[page.number] = why, True
-        self.events, self.filling = self.events - page.events, self.filling - page.filling
 
     def remove_page(self, page: Page) -> None:
         """Removes a page that was freed."""
@@ -288,5 +282,5 @@ class State:
         event is too old is left out."""
         place = self.lines.find(page.join)
         if page.join and place < 0 and self.lines.final:
-            self.omit(page, TOO_OLD)
+            self.omit(page, Omission.TOO_OLD)
         return place

@@ -13,7 +13,7 @@ from typing import Iterator
 
 from ..common.errors import RunFailed
 from .records import IN_FAULT, SIZE, Kind, Record, parse_record
-from .scratch import FOLDER, PIECE, ScratchFile
+from .scratch import FOLDER, ScratchFile
 
 RING_HEAD = 8  # bytes before a record: its length
 SPACE_LINK_AT, LINK_AT = 8 * 13, 8 * 15  # the words of a record that are its links
@@ -72,6 +72,10 @@ class Store:
             record.space_ends = space_ends or None
             yield record
 
+    def pieces(self) -> Iterator[bytes]:
+        """Yields all that is in the file."""
+        return self._file.pieces()
+
     def close(self) -> None:
         """Removes the records."""
         self._file.close()
@@ -84,18 +88,16 @@ class Store:
 
     def _walk(self, at: int = 0, end: int | None = None) -> Iterator[tuple[int, Record]]:
         """Yields the records from a place in the file to another, each with its own place."""
-        end = self.size if end is None else end
-        while at < end:
-            block, place = os.pread(self.descriptor, PIECE, at), 0
-            while place + RING_HEAD <= len(block) and at + place < end:
-                room = room_of(_WORD.unpack_from(block, place)[0])
-                if place + room > len(block):
-                    break
-                yield at + place + RING_HEAD, parse_record(block, place + RING_HEAD)
-                place += room
-            if not place:
-                raise RunFailed("the records on disk end within a record")
-            at += place
+        with self._file.open_again() as file:
+            file.seek(at)
+            while at < (self.size if end is None else end):
+                head = file.read(RING_HEAD)
+                room = room_of(*_WORD.unpack(head)) if len(head) == RING_HEAD else 0
+                raw = file.read(room - RING_HEAD)
+                if not room or len(raw) < room - RING_HEAD:
+                    raise RunFailed("the records on disk end within a record")
+                yield at + RING_HEAD, parse_record(raw)
+                at += room
 
 
 class _Linker:

@@ -8,7 +8,7 @@ from __future__ import annotations
 
 import random
 from dataclasses import dataclass
-from typing import Dict, Iterator, List, Optional, Tuple
+from typing import Iterator
 
 from ..common.subpages import bits_of, runs, size
 from ..record.records import IN_FAULT, Kind, Record
@@ -42,27 +42,25 @@ class PlayedPage:
 class PlayedKernel:
     """Threads of one process, and scans. `records` are those that a recording of them has."""
 
-    def __init__(self, seed: int, one_by_one: bool, threshold: Optional[int], threads: int = 3) -> None:
+    def __init__(self, seed: int, one_by_one: bool, threshold: int | None, threads: int = 3) -> None:
         self.chance = random.Random(seed)
-        self.records: List[Record] = []
-        self.queue: List[PlayedPage] = []
+        self.records: list[Record] = []
+        self.queue: list[PlayedPage] = []
         self._one_by_one, self._threshold = one_by_one, threshold
         self._free = list(range(4 * threads))  # frames of huge pages, which are used again
-        self._places: Dict[int, Optional[PlayedPage]] = {}  # by address
+        self._places: dict[int, PlayedPage | None] = {}  # by address
         self._tasks = [self._work(number) for number in range(1, threads + 1)] + [self._scan_again()]
 
-    def play(self, steps: int) -> List[Record]:
+    def play(self, steps: int) -> list[Record]:
         """Takes steps of tasks picked at random; returns the records."""
         for _ in range(steps):
             next(self.chance.choice(self._tasks))
         return self.records
 
-    def _record(self, kind: Kind, task: int, values: List[int], with_queue: bool = False) -> None:
+    def _record(self, kind: Kind, task: int, values: list[int], with_queue: bool = False) -> None:
         queue = [page.folio for page in self.queue] if with_queue else None
         padded = (*values, *[0] * (9 - len(values)))
         self.records.append(Record(kind, STEP * (1 + len(self.records)), task, SPACE, padded, queue))
-
-    # the threads
 
     def _work(self, task: int) -> Steps:
         """A thread with two places for pages."""
@@ -73,17 +71,14 @@ class PlayedKernel:
             if not page:
                 yield from self._make(task, address)
             elif deed < 4:
-                yield from self._call(task, page, self._range(page), DONTNEED)
+                first = self.chance.randrange(SUBPAGES)
+                yield from self._call(task, page, bits_of(first, 1 + self.chance.randrange(SUBPAGES - first)), MADVISE)
             elif deed == 4:
                 yield from self._call(task, page, EVERY, MUNMAP)
                 self._places[address] = None
             elif not page.is_split:
                 yield from self._pin(task, page)
             yield
-
-    def _range(self, page: PlayedPage) -> int:
-        first = self.chance.randrange(SUBPAGES)
-        return bits_of(first, 1 + self.chance.randrange(SUBPAGES - first))
 
     def _make(self, task: int, address: int) -> Steps:
         if not self._free:
@@ -99,7 +94,7 @@ class PlayedKernel:
 
     def _call(self, task: int, page: PlayedPage, bits: int, number: int) -> Steps:
         (first, count), *_ = runs(bits)
-        call = [MUNMAP if number == MUNMAP else MADVISE, page.address + BASE * first, BASE * count, DONTNEED]
+        call = [number, page.address + BASE * first, BASE * count, DONTNEED]
         self._record(Kind.ENTER, task, call)
         yield
         yield from self._unmap(task, page, bits)
@@ -127,8 +122,6 @@ class PlayedKernel:
         page.pins = 0
         self._put(task, page)
 
-    # pages
-
     def _join(self, page: PlayedPage) -> None:
         if not page.is_listed:
             page.is_listed = True
@@ -136,25 +129,20 @@ class PlayedKernel:
 
     def _put(self, task: int, page: PlayedPage) -> None:
         """Frees a page that nothing holds any more."""
-        if page.mapped or page.pins or page.is_held or page.is_split or page.is_free:
-            return
-        if page in self.queue:
-            self.queue.remove(page)
-        self._record(Kind.FREE, task, [page.folio, 9])
-        self._release(page)
+        if not (page.mapped or page.pins or page.is_held or page.is_split or page.is_free):
+            if page in self.queue:
+                self.queue.remove(page)
+            self._record(Kind.FREE, task, [page.folio, 9])
+            self._release(page)
 
     def _release(self, page: PlayedPage) -> None:
-        if page.is_free:
-            return
-        page.is_free = True
-        self._free.append((page.folio - FIRST_FOLIO) // (PAGE_SIZE * SUBPAGES))
+        if not page.is_free:
+            page.is_free = True
+            self._free.append((page.folio - FIRST_FOLIO) // (PAGE_SIZE * SUBPAGES))
 
     def _free_frames(self, task: int, page: PlayedPage, bits: int) -> None:
-        for first, count in runs(bits):
-            for number in range(first, first + count):
-                self._record(Kind.FREE, task, [page.folio + PAGE_SIZE * number, 0])
-
-    # scans
+        for number in [number for first, count in runs(bits) for number in range(first, first + count)]:
+            self._record(Kind.FREE, task, [page.folio + PAGE_SIZE * number, 0])
 
     def _scan_again(self) -> Steps:
         while True:
@@ -174,7 +162,7 @@ class PlayedKernel:
         taken, self.queue = self.queue[:total], self.queue[total:]
         for page in taken:
             page.is_held = True
-        back: List[PlayedPage] = []
+        back: list[PlayedPage] = []
         split = 0
         for page in reversed(taken):  # the newest first
             yield
@@ -201,7 +189,7 @@ class PlayedKernel:
         page.is_held = False
         self._put(SCANNER, page)
 
-    def _try(self, page: PlayedPage) -> Tuple[bool, bool]:
+    def _try(self, page: PlayedPage) -> tuple[bool, bool]:
         """Returns whether a page was split, and whether it is put back."""
         zeros = size(EVERY & ~page.data)
         underused = self._threshold is not None and not page.is_partly_mapped and zeros > self._threshold

@@ -1,26 +1,26 @@
 #!/usr/bin/env python3
 """Twelve recordings of the running kernel, each as a script: what `thpsplit` does for it, beside what was recorded (root).
 
-    linux/tests/root_scripts.py [NAME..]
+    linux/tests/root_scripts.py [-k NAME]
 
-Each case records a workload, has `thpcheck --script` write the journal's script, and runs that. It passes if the script's scans split as
+Each test records a workload, has `thpcheck --script` write the journal's script, and runs that. It passes if the script's scans split as
 many pages as the recorded ones, and give back as many frames. A line has these numbers, the events of the recording, and the pins that
 the recorder inferred; it ends in `exact` if the script's journal is the recording's, except for callers and blocks. Else the messages of
-`thpcheck` follow, and the first line that differs. The last line is `N passed, M failed`; 77 without root or the programs. A case whose
+`thpcheck` follow, and the first line that differs. The last line is `N passed, M failed`; 77 without root or the programs. A test whose
 workload isn't installed is skipped. Takes about two minutes.
 """
 
 from __future__ import annotations
 
 import itertools
-import os
 import re
 import shutil
 import subprocess
 import sys
 import tempfile
+import unittest
 from dataclasses import dataclass, field
-from functools import partial
+from functools import partialmethod
 from pathlib import Path
 from typing import IO, NamedTuple, Sequence, Union
 
@@ -28,16 +28,19 @@ ROOT = Path(__file__).resolve().parent.parent.parent
 sys.path.insert(0, str(ROOT))
 
 from linux.common import checker, program  # noqa: E402
-from linux.common.errors import DONE, SKIPPED, USAGE  # noqa: E402
+from linux.common.errors import DONE, SKIPPED  # noqa: E402
 from linux.common.subpages import set_of, size  # noqa: E402
-from linux.tests.cases import Cases, Missing  # noqa: E402
+from linux.tests.root_case import RootCase, main  # noqa: E402
 
 Stream = Union[int, IO[bytes]]
-SECONDS = 600  # that a case gets: enough on a loaded machine
+JUDGE, SPLITTER = program.find("thpcheck", checker.BUILT), program.find("thpsplit", program.BUILT)
 PYTHON = "/usr/bin/python3"
 LARGE = ("env", "GLIBC_TUNABLES=glibc.malloc.hugetlb=1")
-RECORDER, WHATIF = ROOT / "linux/tests/programs", ROOT / "linux/whatif/examples"
+PROGRAMS, EXAMPLES = ROOT / "linux/tests/programs", ROOT / "linux/whatif/examples"
 NUMBERS = "seq 2000000 | sort -R | sort -n -S 300M > /dev/null"
+UNDERUSED = "--underused 100 "
+JAVA = ("java", "-XX:+UseTransparentHugePages", "-Xms16m", "-Xmx600m", str(PROGRAMS / "Heap.java"), "1", "2", "10")
+COMPILER = ("g++", "-std=c++17", "-O2", "-c", "-o", "/dev/null", str(EXAMPLES / "heavy.cpp"))
 
 
 class Workload(NamedTuple):
@@ -48,23 +51,20 @@ class Workload(NamedTuple):
     needed: str = ""  # a program that the command runs
 
 
-UNDERUSED = "--underused 100 "
-JAVA = ("java", "-XX:+UseTransparentHugePages", "-Xms16m", "-Xmx600m", str(RECORDER / "Heap.java"), "1", "2", "10")
-COMPILER = ("g++", "-std=c++17", "-O2", "-c", "-o", "/dev/null", str(WHATIF / "heavy.cpp"))
-WORKLOADS: dict[str, Workload] = {
-    "python3": Workload(UNDERUSED, (*LARGE, PYTHON, str(RECORDER / "strings.py"), "1", "40"), PYTHON),
-    "sqlite3": Workload(UNDERUSED + "--seconds 4", (*LARGE, "sh", "-c", f"sqlite3 :memory: < {WHATIF / 'blobs.sql'}"), "sqlite3"),
+WORKLOADS = {
+    "python3": Workload(UNDERUSED, (*LARGE, PYTHON, str(PROGRAMS / "strings.py"), "1", "40"), PYTHON),
+    "sqlite3": Workload(UNDERUSED + "--seconds 4", (*LARGE, "sh", "-c", f"sqlite3 :memory: < {EXAMPLES / 'blobs.sql'}"), "sqlite3"),
     # a reclaim also takes the pages of the programs, which are read again from disk
     "sort": Workload(UNDERUSED + "--every 0.1", (*LARGE, "sh", "-c", NUMBERS), "sort"),
     "gcc": Workload(UNDERUSED + "--every 0.5 --seconds 8", (*LARGE, *COMPILER), "g++"),
     "java": Workload(UNDERUSED + "--seconds 8", JAVA, "java"),
     "fork": Workload("--own 1,2000,1"),
-    "copy on write": Workload("", (PYTHON, str(RECORDER / "snapshots.py"), "1"), PYTHON),
+    "copies_on_write": Workload("", (PYTHON, str(PROGRAMS / "snapshots.py"), "1"), PYTHON),
     "threads": Workload("--own 4,3000,1"),
     "zeros": Workload(UNDERUSED + "--own 1,2000,3,zeros"),
-    "order 9 and 4": Workload("--order 9,4 --every 1", (PYTHON, str(RECORDER / "two_sizes.py"), "150", "4"), PYTHON),
-    "order 4": Workload("--own 1,2000,5 --order 4"),
-    "several groups": Workload("--own 2,1000,1 --groups 3"),
+    "orders_9_and_4": Workload("--order 9,4 --every 1", (PYTHON, str(PROGRAMS / "two_sizes.py"), "150", "4"), PYTHON),
+    "order_4": Workload("--own 1,2000,5 --order 4"),
+    "several_groups": Workload("--own 2,1000,1 --groups 3"),
 }
 
 
@@ -111,18 +111,6 @@ def run(words: list[str], stdin: Stream = subprocess.DEVNULL, stdout: Stream = s
     return done.returncode, [line for line in done.stderr.split("\n") if line]
 
 
-def record(path: Path, workload: Workload) -> str | None:
-    """Records a workload into a journal; returns what is wrong. Missing where it can't be recorded here."""
-    if workload.needed and not shutil.which(workload.needed):
-        raise Missing(f"no {workload.needed}")
-    command = ["--user", "root", "--", *workload.command] if workload.command else []
-    tool = [str(ROOT / "linux/thprecord"), "--wait", "--straighten", "--out", str(path)]
-    status, messages = run([*tool, *workload.options.split(), *command])
-    if status == SKIPPED:
-        raise Missing(printable("; ".join(messages)) or "no huge page was followed")
-    return None if status == DONE else f"status {status}: {printable('; '.join(messages))}"
-
-
 def repeat(path: Path, judge: str, splitter: str) -> tuple[Path, list[str]]:
     """Runs the script of a journal; returns where its journal is, and all messages."""
     script, again = path.with_suffix(".script"), path.with_suffix(".again")
@@ -140,38 +128,36 @@ def printable(text: str) -> str:
     return re.sub("[^ -~]", "?", text)[:200]
 
 
-def compare(path: Path, workload: Workload, judge: str, splitter: str) -> str | None:
-    """Records a workload, and compares it with its script."""
-    wrong = record(path, workload)
-    if wrong:
-        return wrong
-    recorded = outcome_of(path)
-    found, messages = repeat(path, judge, splitter)
-    again = outcome_of(found)
-    difference = recorded.difference(again)
-    print(f"   {len(recorded.lines)} events, {recorded.split} split, {recorded.frames} frames; script {again.split}, {again.frames}; "
-          f"{recorded.pins} pins inferred; {'differs' if difference else 'exact'}")
-    for line in [*messages, *([difference] if difference else [])]:
-        print(f"   {printable(line)}")
-    return None if (recorded.split, recorded.frames) == (again.split, again.frames) else "other splits or frames"
+@unittest.skipUnless(JUDGE and SPLITTER, "no thpcheck or thpsplit (make checker run)")
+class ScriptsTest(RootCase):
+    seconds = 600  # enough on a loaded machine
+
+    def repeat_recording(self, workload: Workload) -> None:
+        """Records a workload, and compares it with its script."""
+        assert JUDGE and SPLITTER
+        if workload.needed and not shutil.which(workload.needed):
+            self.skipTest(f"no {workload.needed}")
+        command = ["--user", "root", "--", *workload.command] if workload.command else []
+        with tempfile.TemporaryDirectory(prefix="root-scripts-") as folder:
+            path = Path(folder) / "journal"
+            status, messages = run([str(ROOT / "linux/thprecord"), "--wait", "--out", str(path), *workload.options.split(), *command])
+            if status == SKIPPED:
+                self.skipTest(printable("; ".join(messages)) or "no huge page was followed")
+            self.assertEqual(status, DONE, printable("; ".join(messages)))
+            recorded = outcome_of(path)
+            found, messages = repeat(path, JUDGE, SPLITTER)
+            again = outcome_of(found)
+        difference = recorded.difference(again)
+        print(f"   {len(recorded.lines)} events, {recorded.split} split, {recorded.frames} frames; script {again.split}, {again.frames}; "
+              f"{recorded.pins} pins inferred; {'differs' if difference else 'exact'}")
+        for line in [*messages, *([difference] if difference else [])]:
+            print(f"   {printable(line)}", flush=True)
+        self.assertEqual((recorded.split, recorded.frames), (again.split, again.frames))
 
 
-def main(names: list[str]) -> int:
-    """Runs all cases, or those that are named."""
-    if unknown := set(names) - set(WORKLOADS):
-        print(f"root_scripts: no case {printable(unknown.pop())}; there are: {', '.join(WORKLOADS)}", file=sys.stderr)
-        return USAGE
-    judge, splitter = program.find("thpcheck", checker.BUILT), program.find("thpsplit", program.BUILT)
-    if os.geteuid() != 0 or not judge or not splitter:
-        print("root_scripts: skipped: not root, or no thpcheck or thpsplit (make checker run)", file=sys.stderr)
-        return SKIPPED
-    cases = Cases("root_scripts", SECONDS)
-    with tempfile.TemporaryDirectory(prefix="root-scripts-") as folder:
-        for name in names or WORKLOADS:
-            path = Path(folder) / f"{name.replace(' ', '-')}.journal"
-            cases.run(name, partial(compare, path, WORKLOADS[name], judge, splitter))
-    return cases.end()
+for each, example in WORKLOADS.items():
+    setattr(ScriptsTest, f"test_{each}", partialmethod(ScriptsTest.repeat_recording, example))
 
 
 if __name__ == "__main__":
-    sys.exit(main(sys.argv[1:]))
+    main()

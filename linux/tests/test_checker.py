@@ -1,105 +1,119 @@
-"""Checks of journals: by a stand-in for `thpcheck`, and by the real one where it is built."""
+"""Checks of journals by a stand-in for `thpcheck`, by the real one where it is built, and what `thprecord` says of a recording."""
 
 from __future__ import annotations
 
 import contextlib
+import io
 import os
 import random
 import tempfile
 import unittest
 from pathlib import Path
-from typing import List, Tuple
 from unittest import mock
 
 from ..common import checker as checkers, program as programs
-from ..common.checker import Checker, find_checker
-from ..common.errors import InputFault, Unavailable
+from ..common.checker import Checker, JournalChecker, find_checker
+from ..common.errors import DIFFERS, DONE, INCONCLUSIVE, SKIPPED, InputFault, Unavailable
 from ..common.journal import journal_of, journal_text
 from ..common.program import Program
-from ..common.text import text_lines
-from ..record.journal_builder import JournalBuilder
 from ..record.outputs import JournalFile
-from ..record.tampering import Alteration, alter_journal
-from .recordings import linked, read_recording
+from ..record.reasons import Doubt
+from ..record.recorder import Recording
+from ..record.report import Report
+from ..record.scans import BATCH
+from ..record.state import MOST_BLOCKS
+from .written_records import JournalCase, WrittenRecords, read_recording, store_records
 
 HERE = Path(__file__).resolve().parent
 PLAIN, PLAIN_CHECKER = str(HERE / "plain_program.py"), str(HERE / "plain_checker.py")
 BUILT = programs.find("thpcheck", checkers.BUILT)
+EXPLAINING = f"#!/bin/sh\nPLAIN_EXPLAINS=1 exec {PLAIN_CHECKER} \"$@\"\n"
+JOINED = "0 unmapsub {0} 0 8 queued -"
 
 
-def journal_of_one_thread() -> str:
-    """The journal of a stored recording, which is legal."""
-    builder = JournalBuilder(9, None, True)
-    builder.add_records(linked(read_recording("one_thread")))
-    return journal_text([builder])
+class VerdictsTest(JournalCase):
+    """What is printed of a recording, and the status."""
 
+    def setUp(self) -> None:
+        self.by: JournalChecker = Program(PLAIN)
 
-def altered_copy() -> Tuple[str, int]:
-    """That journal without one event of the queue, and the line at which it is illegal by the plain reading."""
-    text, chance = journal_of_one_thread(), random.Random(5)
-    while True:
-        copy = alter_journal(text, chance)
-        line = Program(PLAIN).check(copy.text).line if copy and copy.alteration is Alteration.LEFT_OUT else None
-        if copy and line:
-            return copy.text, line
+    def report(
+        self, records: WrittenRecords, doubts: dict[Doubt, int] | None = None, required: float = 95, strict: bool = False
+    ) -> tuple[int, str]:
+        """Returns the status and what is printed of records."""
+        builder, report = self.build(store_records(records.records)), Report(self.by, required, strict)
+        with contextlib.redirect_stdout(io.StringIO()) as out, contextlib.closing(JournalFile([builder])) as journal:
+            report.add(Recording([], doubts or {}, [], "", [], None), [builder], journal)
+            return report.end(), out.getvalue()
 
+    def scan_part(self, taken: slice) -> WrittenRecords:
+        """A scan that splits these of more pages than it may take."""
+        pages = [*range(BATCH + 12)]
+        queue = " ".join(map(str, pages))
+        frees = "; ".join(f"d:free {number} 0 8" for number in pages[taken])
+        left = " ".join(str(number) for number in pages if number not in pages[taken])
+        return WrittenRecords(f"divided {len(pages)}; d:begin {BATCH} > {queue}; {frees}; d:end > {left}")
 
-def check_text(text: str, checker: Checker) -> Tuple[bool, str, List[str]]:
-    """Returns the verdict on a journal's text, as thprecord gets it for its file."""
-    nodes = journal_of(text)
-    journal = JournalFile(nodes)
-    try:
-        return journal.check(sum(len(node.events) for node in nodes), checker)
-    finally:
-        journal.close()
+    def test_legal_and_strict(self) -> None:
+        records = WrittenRecords("divided 2; d:begin > 0 1; d:end > 1 0")
+        status, text = self.report(records)
+        self.assertEqual((status, text.split("\n")[0]), (DONE, "legal but for E: 2 of 2 pages followed (100.0 %), 14 events"))
+        status, text = self.report(records, strict=True)
+        self.assertEqual((status, text.split(":")[0]), (DIFFERS, "differs by E"))
+        self.assertEqual(self.report(self.scan_part(slice(0, BATCH)))[0], DONE)
 
+    def test_a_scan_that_takes_others_than_the_oldest_is_illegal(self) -> None:
+        status, text = self.report(self.scan_part(slice(-BATCH, None)))
+        self.assertEqual((status, text.split(":")[0]), (DIFFERS, "illegal line 423"))
+        self.assertIn("\n    line 423: 1 taken 12\n", text)
 
-class ExplainedTest(unittest.TestCase):
-    def checker(self, explains: bool) -> Checker:
-        if not explains:
-            return Checker(PLAIN_CHECKER)
-        folder = tempfile.TemporaryDirectory()
-        self.addCleanup(folder.cleanup)
-        path = Path(folder.name) / "checker"
-        path.write_text("#!/usr/bin/env python3\nimport os, sys\nos.environ['PLAIN_EXPLAINS'] = '1'\n"
-                        f"os.execv('{PLAIN_CHECKER}', ['checker', *sys.argv[1:]])\n")
-        path.chmod(0o755)
-        return Checker(str(path))
+    def test_a_queue_in_another_order_differs(self) -> None:
+        status, text = self.report(WrittenRecords("divided 2; d:begin > 0 1; d:end > 1 0; look > 0 1"))
+        self.assertEqual((status, text.split(":")[0]), (DIFFERS, "differs"))
+
+    def test_what_may_be_a_limit_of_the_tool_is_inconclusive(self) -> None:
+        illegal = self.scan_part(slice(-BATCH, None))
+        status, text = self.report(illegal, {Doubt.LOST: 3})
+        self.assertEqual((status, text.split(":")[0]), (INCONCLUSIVE, "inconclusive"))
+        self.assertIn("line 423 would be illegal", text)
+        self.assertIn("3 records were lost", text)
+        legal = WrittenRecords("divided 2; d:begin > 0 1; d:free 0 0 7; d:free 1 0 8; d:end > -")
+        self.assertEqual(self.report(legal, required=50)[0], DONE)
+        status, text = self.report(legal, required=51)
+        self.assertEqual(status, INCONCLUSIVE)
+        self.assertIn("1 pages weren't followed", text)
+
+    def test_more_pages_than_a_journal_has_blocks(self) -> None:
+        status, text = self.report(WrittenRecords("; ".join(f"page {number}" for number in range(MOST_BLOCKS + 1))))
+        self.assertEqual(status, INCONCLUSIVE)
+        self.assertIn(f"line {MOST_BLOCKS + 3} would be illegal, but for {Doubt.MANY_PAGES.text}", text)
+
+    def test_nothing(self) -> None:
+        self.assertEqual(self.report(WrittenRecords())[0], SKIPPED)
 
     def test_an_illegal_journal_is_explained(self) -> None:
-        text, line = altered_copy()
-        is_legal, verdict, why = check_text(text, self.checker(True))
-        self.assertEqual((is_legal, verdict.split(" (")[0]), (False, f"illegal line {line}"))
-        self.assertEqual(why[0], f"line {line}: {text_lines(text)[line - 1]}")
-
-    def test_a_checker_that_does_not_explain_is_not_asked_to(self) -> None:
-        text, line = altered_copy()
-        is_legal, verdict, why = check_text(text, self.checker(False))
-        self.assertEqual((is_legal, why), (False, []))
-        self.assertTrue(verdict.startswith(f"illegal line {line}: {text_lines(text)[line - 1]} ("))
-
-    def test_a_legal_journal_has_nothing_to_explain(self) -> None:
-        is_legal, verdict, why = check_text(journal_of_one_thread(), self.checker(True))
-        self.assertEqual((is_legal, verdict.split(" (")[0], why), (True, "legal", []))
-
-    def test_an_empty_journal_is_no_legal_one(self) -> None:
-        self.assertFalse(check_text("thp-journal 1\nnode 0 blocks 8\nend\n", self.checker(True))[0])
+        with tempfile.TemporaryDirectory() as name:
+            path = Path(name) / "checker"
+            path.write_text(EXPLAINING)
+            path.chmod(0o755)
+            self.by = Checker(str(path))
+            text = self.report(self.scan_part(slice(-BATCH, None)))[1]
+        self.assertIn("\n    line 423: 1 taken 12\n    expected: nothing\n    why: the plain reading refuses it\n", text)
 
 
 @unittest.skipUnless(BUILT, "there is no thpcheck (make checker, or THPCHECK=PATH)")
-class BuiltTest(unittest.TestCase):
-    """The built program and the plain reading agree on a recording."""
+class BuiltTest(JournalCase):
+    """The built program and the plain reading agree on a recording, and on it without a taken page."""
 
-    def test_a_recording_and_a_altered_copy_of_it(self) -> None:
+    def test_a_recording(self) -> None:
         assert BUILT
-        text, line = altered_copy()
-        checker = Checker(BUILT)
-        self.assertEqual(checker.check(journal_of_one_thread()).text, "legal")
-        verdict = checker.check(text)
-        self.assertEqual((verdict.text, verdict.line), (f"illegal line {line}", line))
-        if verdict.why:
-            self.assertEqual(text_lines(verdict.why)[0], f"line {line}: {text_lines(text)[line - 1]}")
-            self.assertIn("\nwhy: ", verdict.why)
+        text = journal_text([self.build(read_recording("one_thread"))])
+        lines = text.split("\n")
+        del lines[next(at for at, line in enumerate(lines) if " taken " in line)]
+        for each in (text, "\n".join(lines)):
+            found, plain = Checker(BUILT).check(each), Program(PLAIN).check(each)
+            self.assertEqual((found.legal, found.line, found.text), (plain.legal, plain.line, plain.text))
+        self.assertIn("\nwhy: ", found.why)
 
 
 class FoundTest(unittest.TestCase):
@@ -127,16 +141,13 @@ class FoundTest(unittest.TestCase):
     def test_thpcheck_comes_first_and_thpsplit_stands_in_for_it(self) -> None:
         with self.assertRaisesRegex(Unavailable, "no thpcheck .*, and no thpsplit"):
             find_checker()
-        split = self.made("thpsplit")
-        found = find_checker()
-        self.assertEqual((type(found), found.path), (Program, split))
-        check = self.made("thpcheck")
-        found = find_checker()
-        self.assertEqual((type(found), found.path), (Checker, check))
+        for name, kind in (("thpsplit", Program), ("thpcheck", Checker)):
+            path = self.made(name)
+            found = find_checker()
+            self.assertEqual((type(found), found.path), (kind, path))
 
     def test_one_that_is_named_judges(self) -> None:
-        split, check = self.made("thpsplit"), self.made("thpcheck")
-        other = self.made("other")
+        split, check, other = self.made("thpsplit"), self.made("thpcheck"), self.made("other")
         self.assertEqual(find_checker(program=split).path, split)
         self.assertEqual(find_checker(checker=other, program=split).path, other)
         with mock.patch.dict(os.environ, {"THPCHECK": other, "THPSPLIT": split}):
@@ -146,7 +157,7 @@ class FoundTest(unittest.TestCase):
             find_checker(checker="nowhere")
 
 
-class JournalTextTest(unittest.TestCase):
+class JournalTextTest(JournalCase):
     """Texts that can be anything."""
 
     def refused(self, content: bytes) -> str:
@@ -155,14 +166,14 @@ class JournalTextTest(unittest.TestCase):
         return str(caught.exception)
 
     def test_bytes_that_are_no_journal(self) -> None:
-        chance, text = random.Random(4), journal_of_one_thread().encode()
+        chance, text = random.Random(4), journal_text([self.build(read_recording("one_thread"))]).encode()
         self.refused(b"")
         for _ in range(300):
             self.refused(chance.randbytes(chance.randrange(1, 300)))
-        for at in range(30):
+        for _ in range(30):
             place = chance.randrange(len(text) - 1)
             self.refused(text[:place] + bytes([chance.choice(b"\x00\x80\xff\n\r\x1c x")]) + text[place:])
-        self.assertEqual(self.refused(b"thp-journal 1\nnode 0 blocks 8\n0 split 0 0-99999999999\nend\n"),
-                         "line 3 of the journal is neither a node nor an event")
-        self.assertEqual(self.refused(b"thp-journal 1\n0 alloc 0\nend\n"), "line 2 of the journal is neither a node nor an event")
+        for number, lines in ((3, b"node 0 blocks 8\n0 split 0 0-99999999999"), (2, b"0 alloc 0")):
+            self.assertEqual(self.refused(b"thp-journal 1\n" + lines + b"\nend\n"),
+                             f"line {number} of the journal is neither a node nor an event")
         self.assertEqual(len(journal_of(text.decode())), 1)

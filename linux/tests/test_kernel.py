@@ -12,7 +12,7 @@ from unittest import mock
 
 from ..common import kernel_library, kernel_memory, proc
 from ..record.options import parse_size
-from ..record.recorder import Taker, name_gaps
+from ..record.recorder import Taker
 
 KERNEL, PLACES = Path(__file__).resolve().parent.parent / "kernel", Path(__file__).with_name("queue_places.c")
 CO_RE = """libbpf: prog 'read_queue': BPF program load failed: Invalid argument
@@ -76,13 +76,9 @@ class DiskTest(unittest.TestCase):
     def test_nothing_is_taken_past_the_limit(self) -> None:
         track = mock.Mock(store=mock.Mock(size=40, count=3))
         track.take.side_effect = [True, False]
-        taker = Taker([track, track], None, 100)
+        taker = Taker([track, track], 100, mock.Mock(), None)
         taker.take()
         taker.take()
         self.assertEqual([each.args[0] for each in track.take.call_args_list], [20, 20])
         self.assertTrue(taker.is_full)
 
-    def test_gaps_are_named(self) -> None:
-        self.assertEqual(name_gaps(0, 0, False), [])
-        self.assertEqual(name_gaps(1, 2, True), [
-            "1 records were lost", "the kernel left out 2 runs of the trace programs", "the records reached the limit of --disk"])

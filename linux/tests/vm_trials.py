@@ -49,7 +49,7 @@ class KernelTests(unittest.TestCase):
             "scripts": f"thpreplay {replay} --random {SCRIPTS}",
             "reverse": f"python3 linux/tests/wrong_queues.py reverse {replay} --random 5 --shrink 0",
             "other": f"python3 linux/tests/wrong_queues.py other {replay} --random 2 --shrink 0",
-            "recording": f"thprecord {CHECKER} --straighten --own 1,{STEPS},1 --least {EVENTS}",
+            "recording": f"thprecord {CHECKER} --own 1,{STEPS},1 --least {EVENTS}",
             "letters": f"thpreplay {PROGRAM} --fingerprint --markdown",
         }
         script = "; ".join(f"echo == {name}; {command} 2>&1; echo status $?" for name, command in commands.items())
@@ -69,7 +69,7 @@ class KernelTests(unittest.TestCase):
         wanted = {"scripts": DONE, "reverse": DIFFERS, "other": DIFFERS, "recording": DONE, "letters": DONE}
         self.assertEqual(statuses, wanted)
         for name, pattern in (("scripts", rf"\b{SCRIPTS} agrees\n"), ("scripts", r"[1-9][0-9]* queues compared\n"),
-                              ("recording", r"^legal .*\n(.*\n)* *[1-9][0-9]* queues compared\n")):
+                              ("recording", r"^legal.*\n(.*\n)* *[1-9][0-9]* queues compared")):
             self.assertRegex(found[name], re.compile(pattern, re.MULTILINE))
         self.assertIsNone(find_wrong(found["letters"], DOCUMENT.read_text(encoding="utf-8")))
 

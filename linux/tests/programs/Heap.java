@@ -5,7 +5,7 @@ import java.util.Random;
 /**
  * Threads of a Java program whose heap grows and shrinks.
  *
- * <pre>thprecord --underused as-is --straighten -- java -XX:+UseTransparentHugePages -Xms16m -Xmx600m
+ * <pre>thprecord --underused as-is -- java -XX:+UseTransparentHugePages -Xms16m -Xmx600m
  *     -XX:MaxHeapFreeRatio=10 -XX:MinHeapFreeRatio=5 Heap.java SEED THREADS ROUNDS</pre>
  */
 public class Heap {

@@ -1,8 +1,8 @@
 """Pages of tasks that change their control group while they have them, of memory control groups of version 1 or 2.
 
-    thprecord --straighten -- python3 groups.py leaves      # its pages stay in the recorded queue
-    thprecord --straighten -- python3 groups.py enters      # comes from the root group; pages from there stay in its queue
-    thprecord --straighten -- python3 groups.py inner       # makes a group in its own for some pages, and leaves it to end
+    thprecord -- python3 groups.py leaves      # its pages stay in the recorded queue
+    thprecord -- python3 groups.py enters      # comes from the root group; pages from there stay in its queue
+    thprecord -- python3 groups.py inner       # makes a group in its own for some pages, and leaves it to end
 
 Of eight pages, the half is in the queue before the change; after it, eight more are made. With `inner`, eight are made before it, too.
 Needs root.

@@ -1,6 +1,6 @@
 """A foreign program for thprecord: large strings that are made, kept for a while and dropped, in no order.
 
-    thprecord --underused as-is --straighten -- env GLIBC_TUNABLES=glibc.malloc.hugetlb=1 python3 strings.py SEED COUNT
+    thprecord --underused as-is -- env GLIBC_TUNABLES=glibc.malloc.hugetlb=1 python3 strings.py SEED COUNT
 """
 
 import random

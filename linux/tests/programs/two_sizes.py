@@ -1,6 +1,6 @@
 """Pages of order 4 and of PMD size that join the queue in turn, more than a scan takes at a time; some are pinned.
 
-    thprecord --order 9,4 --every 1 --straighten -- python3 two_sizes.py PAIRS SECONDS
+    thprecord --order 9,4 --every 1 -- python3 two_sizes.py PAIRS SECONDS
 """
 
 from __future__ import annotations
