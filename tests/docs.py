@@ -37,7 +37,7 @@ MOST_WORDS = 25_000
 MOST_ROWS = 40
 """The most rows of the tables in docs/MAP.md."""
 
-MOST_KERNEL_LINES = {"Python": 10_000, "C": 2_500, "tests": 6_500}
+MOST_KERNEL_LINES = {"Python": 11_400, "C": 2_750, "tests": 7_900}
 """The most lines of `linux/`: Python and C outside tests, and both in tests."""
 
 DOCUMENTS = ["README.md", "CONTRIBUTING.md", *sorted(str(path.relative_to(ROOT)) for path in ROOT.glob("docs/*.md"))]
@@ -108,7 +108,8 @@ def kernel_tools_are_small() -> str | None:
         if path.suffix in (".py", ".c", ".h") and "out" not in parts:
             kind = "tests" if "tests" in parts else "Python" if path.suffix == ".py" else "C"
             lines[kind] += len(path.read_text().splitlines())
-    return listed((f"{lines[kind]} of {kind}, and may have {most}" for kind, most in MOST_KERNEL_LINES.items() if lines[kind] > most), "lines:")
+    found = (f"{lines[kind]} of {kind}, and may have {most}" for kind, most in MOST_KERNEL_LINES.items() if lines[kind] > most)
+    return listed(found, "lines:")
 
 
 def words_are_plain() -> str | None:

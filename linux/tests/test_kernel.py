@@ -81,4 +81,3 @@ class DiskTest(unittest.TestCase):
         taker.take()
         self.assertEqual([each.args[0] for each in track.take.call_args_list], [20, 20])
         self.assertTrue(taker.is_full)
-
