@@ -29,6 +29,7 @@ static size_t size; /* bytes of a page */
 struct place {
     unsigned char *page;
     int pin; /* a pipe that holds a reference, or 0 */
+    int is_whole; /* no part was dropped or replaced, so that a pin holds the page, not a base page that it was split into */
 };
 
 struct range {
@@ -59,6 +60,7 @@ static size_t any_place(unsigned *chance)
 static void make(struct place *place, unsigned *chance)
 {
     place->page = find_place(size);
+    place->is_whole = 1;
     new_area(place->page, size);
     madvise(place->page, size, MADV_HUGEPAGE);
     memset(place->page, 90, zeros ? any_place(chance) + 1 : size);
@@ -81,9 +83,8 @@ static void drop(struct place *place)
 static void pin(struct place *place, struct range range)
 {
     int ends[2];
-    unsigned char in = 0;
     struct iovec one = { place->page + range.first, 1 };
-    if (place->pin || mincore(one.iov_base, 1, &in) || !in || pipe(ends))
+    if (place->pin || !place->is_whole || pipe(ends))
         return;
     if (vmsplice(ends[1], &one, 1, 0) == 1)
         place->pin = dup(ends[0]);
@@ -127,6 +128,7 @@ static void step(struct place *place, unsigned *chance)
     if (!place->page) {
         make(place, chance);
     } else if (deed < 4) {
+        place->is_whole = 0;
         madvise(place->page + range.first, range.length, MADV_DONTNEED);
     } else if (deed == 4) {
         madvise(place->page, size / 2, MADV_DONTDUMP);
@@ -144,6 +146,7 @@ static void step(struct place *place, unsigned *chance)
     } else if (deed < STEPS + COLLAPSES) {
         madvise(place->page, size, MADV_COLLAPSE);
     } else if (deed == STEPS + COLLAPSES) {
+        place->is_whole = 0;
         new_area(place->page + range.first, range.length);
     } else {
         move(place, chance);

@@ -79,7 +79,7 @@ def run(words: Sequence[str], meanwhile: Callable[[subprocess.Popen[bytes], floa
     """Runs the tool, looks at its memory, and calls `meanwhile` with the seconds since its start. `before`: words that start it."""
     began, resident = time.monotonic(), 0
     with tempfile.TemporaryFile() as out, tempfile.TemporaryFile() as problems:
-        tool = subprocess.Popen([*before, str(ROOT / "linux/thprecord"), "--wait", "--checker", CHECKER, *words],
+        tool = subprocess.Popen([*before, str(ROOT / "linux/thprecord"), "--wait", "--checker", CHECKER, "--require", "80", *words],
                                 stdin=subprocess.DEVNULL, stdout=out, stderr=problems,
                                 preexec_fn=lambda: signal.signal(signal.SIGINT, signal.default_int_handler) and None)
         try:

@@ -140,7 +140,8 @@ class ScriptsTest(RootCase):
         command = ["--user", "root", "--", *workload.command] if workload.command else []
         with tempfile.TemporaryDirectory(prefix="root-scripts-") as folder:
             path = Path(folder) / "journal"
-            status, messages = run([str(ROOT / "linux/thprecord"), "--wait", "--out", str(path), *workload.options.split(), *command])
+            status, messages = run([str(ROOT / "linux/thprecord"), "--wait", "--require", "80", "--out", str(path),
+                                    *workload.options.split(), *command])
             if status == SKIPPED:
                 self.skipTest(printable("; ".join(messages)) or "no huge page was followed")
             self.assertEqual(status, DONE, printable("; ".join(messages)))
