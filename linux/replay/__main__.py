@@ -160,6 +160,7 @@ def run_all(options: argparse.Namespace) -> int:
 
 def fingerprint(options: argparse.Namespace) -> int:
     """Prints how this kernel does each known difference."""
+    os.sched_setaffinity(0, {min(os.sched_getaffinity(0))})  # all pages are on one NUMA node then, and a queue is one list
     with open_bench(NAME, options) as bench:
         found = find_all(look_on(bench))
     if options.markdown:
