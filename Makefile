@@ -196,7 +196,7 @@ linux-vm:
 	@python3 linux/tests/vm_trials.py
 
 root-tests:
-	@for script in linux/tests/root_*.py; do echo "== $$script"; python3 $$script || test $$? = 77 || failed=1; done; test -z "$$failed"
+	@for script in $(filter-out %/root_case.py,$(wildcard linux/tests/root_*.py)); do echo "== $$script"; python3 $$script || test $$? = 77 || failed=1; done; test -z "$$failed"
 
 bench:
 	@bash bench/run
