@@ -49,7 +49,7 @@ class KernelTests(unittest.TestCase):
             "scripts": f"thpreplay {replay} --random {SCRIPTS}",
             "reverse": f"python3 linux/tests/wrong_queues.py reverse {replay} --random 5 --shrink 0",
             "other": f"python3 linux/tests/wrong_queues.py other {replay} --random 2 --shrink 0",
-            "recording": f"thprecord {CHECKER} --own 1,{STEPS},1 --least {EVENTS}",
+            "recording": f"thprecord {CHECKER} --require 50 --own 1,{STEPS},1 --least {EVENTS}",
             "letters": f"thpreplay {PROGRAM} --fingerprint --markdown",
         }
         script = "; ".join(f"echo == {name}; {command} 2>&1; echo status $?" for name, command in commands.items())
