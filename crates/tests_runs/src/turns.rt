@@ -1,6 +1,10 @@
 //! A gate that alternates the commands of two workers, and lets those of others through at once.
+use std::hint::spin_loop;
 use std::sync::atomic::{AtomicU64, Ordering};
 use thp_worker::Gate;
+
+// How often a call looks for its turn before the run fails.
+const MAX_TURNS: u32 = 50_000_000;
 
 // A gate call is a bit: three of the worker that goes first, and then three of the other one.
 #[derive(Drop)]
@@ -46,11 +50,11 @@ impl Gate for InTurns {
         }
         let (own, wanted) = self.bits(worker, index);
         let _before = self.made.fetch_or(own, Ordering::SeqCst);
-        // some seconds, for a machine whose cores are all taken
-        for _ in 0..u32::MAX {
+        for _ in 0..MAX_TURNS {
             if self.made.load(Ordering::SeqCst) & wanted != 0 {
                 return;
             }
+            spin_loop();
         }
         self.late.store(1, Ordering::SeqCst);
     }

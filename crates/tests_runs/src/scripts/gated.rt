@@ -4,6 +4,7 @@ use crate::turns::InTurns;
 use std::alloc::{AllocError, Global};
 use std::process::Abort;
 use std::thread::Threads;
+use thp_history::Refusal;
 
 // Runs a script of two workers with two commands each, `first` before `other`, checks the answers of both, and returns how many
 // events there are.
@@ -82,4 +83,26 @@ fn gated_late_pages(rt: HostRuntime) {
     write_late_pages(&mut script).expect(&rt, "memory");
     let wanted: &[ExpectedAnswer] = &[ExpectedAnswer::Done, ExpectedAnswer::Done];
     let _events = take_turns(&rt, rt.alloc(), 1, 2, script.as_bytes(), [wanted, wanted]);
+}
+
+// Pages whose numbers take more than 32 bits are refused at once while the other worker has its pass, too.
+#[test]
+fn gated_absent_pages(rt: HostRuntime) {
+    let script =
+        b"worker 1\nunmap 0 4294967296 0 1\nunmap 0 18446744073709551615 0 1\nworker 2\nunmap 0 4294967297 0 1\nunmap 0 4294967298 0 1\n";
+    let absent = ExpectedAnswer::Refused(Refusal::NoPage);
+    let wanted: &[ExpectedAnswer] = &[absent, absent];
+    let events = take_turns(&rt, rt.alloc(), 1, 2, script.as_slice(), [wanted, wanted]);
+    assert!(rt; events == 0);
+}
+
+// Each worker tries the page of its own batch while the other one has a batch, too.
+#[test]
+fn gated_tries(rt: HostRuntime) {
+    let script =
+        b"setup\nalloc 0\nsplitpmd 0 0\nunmap 0 0 0 1\nalloc 0\nsplitpmd 0 1\nunmap 0 1 0 1\nworker 1\ntake 0 1\nsplitnext 0\nworker 2\ntake 0 1\nsplitnext 0\n";
+    let first: &[ExpectedAnswer] = &[ExpectedAnswer::Taken(1), ExpectedAnswer::Split(0)];
+    let other: &[ExpectedAnswer] = &[ExpectedAnswer::Taken(1), ExpectedAnswer::Split(1)];
+    let events = take_turns(&rt, rt.alloc(), 1, 2, script.as_slice(), [first, other]);
+    assert!(rt; events == 10);
 }
