@@ -29,6 +29,8 @@
 #               if this machine can compare nothing)
 # make linux-vm: the same on Debian's kernels in virtual machines, a recording and known differences (needs qemu-system-x86; without
 #               KVM at most 40 minutes)
+# make linux-programs: recordings of a hundred programs of Debian under memory pressure (root; about 20 minutes; linux/tests/programs/debian.txt
+#               names their packages)
 # make root-tests: attacks on the tools that run as root, and what these leave after any end (needs root; about 10 minutes)
 # make bench:   times on large scripts, beside plain Rust, and of single calls (docs/PERFORMANCE.md has the figures)
 # make help:    these lines
@@ -43,7 +45,7 @@ DEBS ?= out
 CASES ?= 2000
 SEED ?= 1
 
-.PHONY: help deps try run checker drawer install put put-tools uninstall deb dist reproduce dist-test cross-test test outside toolchain fuzz memory c edits believe linux linux-vm root-tests bench
+.PHONY: help deps try run checker drawer install put put-tools uninstall deb dist reproduce dist-test cross-test test outside toolchain fuzz memory c edits believe linux linux-vm linux-programs root-tests bench
 
 help:
 	@sed -n '/^[^#]/q; s/^# //p' Makefile
@@ -193,10 +195,13 @@ linux:
 	@python3 -m linux.replay --program $(PROGRAM) --random $(CASES) --seed $(SEED) --quiet
 
 linux-vm:
-	@python3 linux/tests/vm_trials.py
+	@python3 linux/tests/run.py -p vm_trials.py
+
+linux-programs:
+	@python3 linux/tests/run.py -p program_trials.py
 
 root-tests:
-	@for script in $(filter-out %/root_case.py,$(wildcard linux/tests/root_*.py)); do echo "== $$script"; python3 $$script || test $$? = 77 || failed=1; done; test -z "$$failed"
+	@for script in $(notdir $(wildcard linux/tests/root_*.py)); do echo "== $$script"; python3 linux/tests/run.py -p $$script || test $$? = 77 || failed=1; done; test -z "$$failed"
 
 bench:
 	@bash bench/run

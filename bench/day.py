@@ -45,7 +45,7 @@ KINDS = (
 )
 """For each kind of page its events when it comes, when it is tried, and when it is freed."""
 
-POLICIES = ["--threshold", "recorded,64,256", "--scan", "recorded,seconds:600,events:10000,held:2000"]
+POLICIES = ["--threshold", "recorded,64,256", "--scan", "recorded,seconds:600,seconds:60,held:2000"]
 
 
 def steps() -> Iterator[list[str]]:

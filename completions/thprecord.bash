@@ -10,10 +10,11 @@ _thprecord() {
     case $before in
     --checker | --program | --out | --times | --records) COMPREPLY=($(compgen -f -- "$word")); return ;;
     --underused) COMPREPLY=($(compgen -W 'off as-is' -- "$word")); return ;;
+    --enabled) COMPREPLY=($(compgen -W 'madvise always' -- "$word")); return ;;
     --user) COMPREPLY=($(compgen -u -- "$word")); return ;;
-    --own | --order | --groups | --every | --contents | --collapse | --require | --least | --seconds | --events | --disk) COMPREPLY=(); return ;;
+    --own | --order | --every | --contents | --collapse | --require | --seconds | --disk) COMPREPLY=(); return ;;
     esac
-    COMPREPLY=($(compgen -W '--checker --program --own --order --groups --underused --every --collapse --compact --strict --require
-        --out --times --contents --records --least --seconds --events --disk --user --wait --help --version --' -- "$word"))
+    COMPREPLY=($(compgen -W '--checker --program --own --order --underused --enabled --every --collapse --strict --require
+        --out --times --contents --records --seconds --disk --user --wait --help --version --' -- "$word"))
 }
 complete -F _thprecord thprecord

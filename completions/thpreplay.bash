@@ -2,15 +2,15 @@
 _thpreplay() {
     local word=${COMP_WORDS[COMP_CWORD]} before=${COMP_WORDS[COMP_CWORD - 1]}
     case $before in
-    --program | --seeds) COMPREPLY=($(compgen -f -- "$word")); return ;;
-    --keep | --store) COMPREPLY=($(compgen -d -- "$word")); return ;;
+    --program) COMPREPLY=($(compgen -f -- "$word")); return ;;
+    --keep) COMPREPLY=($(compgen -d -- "$word")); return ;;
     --fill) COMPREPLY=($(compgen -W 'data zeros' -- "$word")); return ;;
     --nodes | --orders | --underused | --blocks | --random | --seed | --node-counts | --page-orders | --thresholds | --queue-lengths | --length | --shrink)
         COMPREPLY=(); return ;;
     esac
     COMPREPLY=($(compgen -W '--program --nodes --orders --underused --blocks --random --seed --node-counts --page-orders
-        --thresholds --queue-lengths --length --fill --keep --shrink --store --no-memory --exact-scans
-        --seeds --fingerprint --markdown --json --show --wait --undo --verbose --quiet --help --version' -- "$word"))
+        --thresholds --queue-lengths --length --fill --keep --shrink --no-memory
+        --fingerprint --json --show --wait --undo --verbose --quiet --help --version' -- "$word"))
     COMPREPLY+=($(compgen -f -- "$word"))
 }
 complete -F _thpreplay thpreplay

@@ -4,12 +4,9 @@ _thpvm() {
     case $before in
     --file) COMPREPLY=($(compgen -f -- "$word")); return ;;
     --accel) COMPREPLY=($(compgen -W 'auto kvm emulation' -- "$word")); return ;;
-    --cgroup) COMPREPLY=($(compgen -W '1 2' -- "$word")); return ;;
-    --suite | --numa | --memory | --processors | --set | --append | --boot-limit | --limit | --silence)
-        COMPREPLY=(); return ;;
+    --numa | --memory | --append | --limit) COMPREPLY=(); return ;;
     esac
-    COMPREPLY=($(compgen -W '--suite --numa --memory --processors --cgroup --accel --file --set --append --boot-limit --limit
-        --silence --bisect --verbose --help --version' -- "$word"))
+    COMPREPLY=($(compgen -W '--numa --memory --accel --file --append --limit --bisect --help --version' -- "$word"))
     COMPREPLY+=($(compgen -f -- "$word"))
 }
 complete -F _thpvm thpvm

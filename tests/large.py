@@ -335,11 +335,9 @@ PINS = 2_000_000
 SETUP_BYTES = 16 * 2**20
 """The greatest address space that setup may use for them: their effect is in the nodes' counts, and no list contains them."""
 
-COMMAND_BYTES = 24
-"""The memory that a worker's command may use until it is executed. With 6 MiB for the program, the node and the huge pages of a
-stack and of a heap, two million of them use less than 52 MiB. A list of their events would not fit."""
-
-WORKER_BYTES = PINS * COMMAND_BYTES + 6 * 2**20
+WORKER_BYTES = 64 * 2**20
+"""The memory that the program may use for two million commands of a worker, which take 32 bytes each until they are executed. A list
+of their events would not fit."""
 
 MEASURED = """
 import os, sys
@@ -455,7 +453,7 @@ def main() -> None:
             for case in part():
                 tally.run(case.name, partial(wrong_of, path, case))
         tally.run("two million pins and unpins of setup, in 16 MiB", lambda: setup_keeps_nothing(path))
-        tally.run("two million pins and unpins of a worker, in 52 MiB", lambda: worker_keeps_commands(path))
+        tally.run("two million pins and unpins of a worker, in 64 MiB", lambda: worker_keeps_commands(path))
         tally.run("63 workers on 8 nodes", lambda: crowd(path))
         tally.end()
 

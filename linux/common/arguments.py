@@ -4,7 +4,7 @@ from __future__ import annotations
 
 import argparse
 import re
-from typing import Any, Callable, Mapping, NoReturn, Sequence
+from typing import Any, Callable, NoReturn
 
 from .errors import InputFault
 from .text import escape
@@ -52,18 +52,3 @@ def seconds(low: float, high: float) -> Callable[[str], float]:
         return float(text)
 
     return parse
-
-
-def parse_pairs(words: Sequence[str], types: Mapping[str, Callable[[str], Any]], what: str) -> dict[str, Any]:
-    """Returns the values of options, each `--NAME VALUE` or `--NAME=VALUE`, by their types. InputFault where there are other
-    words; it quotes none of them, since they may be from a file that isn't its reader's."""
-    out, rest = {}, iter(words)
-    for word in rest:
-        name, equals, value = word[2:].partition("=")
-        if not word.startswith("--") or name not in types:
-            raise InputFault(f"{what}: a word is none of the options --{', --'.join(types)}")
-        try:
-            out[name] = types[name](value if equals else next(rest, ""))
-        except argparse.ArgumentTypeError as error:
-            raise InputFault(f"{what}: --{name} has a value that can't be used") from error
-    return out

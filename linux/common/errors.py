@@ -4,6 +4,7 @@ from __future__ import annotations
 
 import signal
 import sys
+import traceback
 from contextlib import contextmanager
 from pathlib import Path
 from typing import Iterator
@@ -42,10 +43,7 @@ def signals_wait() -> Iterator[set[signal.Signals]]:
 
 def place_of(error: BaseException) -> str:
     """Returns where an exception arose: the file's name and the line."""
-    trace = error.__traceback__
-    while trace and trace.tb_next:
-        trace = trace.tb_next
-    return f"{Path(trace.tb_frame.f_code.co_filename).name}:{trace.tb_lineno}" if trace else "unknown place"
+    return "".join(f"{Path(frame.filename).name}:{frame.lineno}" for frame in traceback.extract_tb(error.__traceback__)[-1:])
 
 
 def status_of(name: str, error: BaseException) -> int:

@@ -23,10 +23,8 @@ THP = "/sys/kernel/mm/transparent_hugepage"
 SWITCH = f"{THP}/shrink_underused"  # split underused pages at all: 0 or 1 (mm/huge_memory.c: split_underused_thp)
 PTES_NONE = f"{THP}/khugepaged/max_ptes_none"  # the threshold of zero-filled subpages
 COLLAPSE_SLEEP = f"{THP}/khugepaged/scan_sleep_millisecs"
-COMPACT = "/proc/sys/vm/compact_memory"  # a write compacts all memory at once
 MOST_INPUT = 64 << 20  # bytes of an input file
 
-_SEARCHED = os.O_PATH | os.O_DIRECTORY | os.O_NOFOLLOW | os.O_CLOEXEC
 _NEW = os.O_WRONLY | os.O_CREAT | os.O_EXCL | os.O_NOFOLLOW | os.O_CLOEXEC
 
 
@@ -66,10 +64,7 @@ def open_input(path: PathText) -> BinaryIO:
 
 def read_input(path: PathText, most: int = MOST_INPUT) -> bytes:
     """Returns all bytes of such a file. InputFault where it can't be read, is none, or has more than `most` bytes."""
-    file = open_input(path)
-    with named_faults(path, "can't be read"), ExitStack() as stack:
-        if file is not sys.stdin.buffer:
-            stack.enter_context(file)
+    with named_faults(path, "can't be read"), open_input(path) as file:
         data = file.read(most + 1)
     if len(data) > most:
         raise InputFault(f"{escape(str(path))} has more than {most >> 20} MiB")
@@ -82,11 +77,9 @@ class NewFile:
 
     def __init__(self, path: PathText) -> None:
         folder, self._name = os.path.split(str(path))
-        with named_faults(path, "can't be made"), ExitStack() as undone:
+        with named_faults(path, "can't be made"):
             self._folder = os.open(folder or ".", os.O_PATH | os.O_DIRECTORY | os.O_CLOEXEC)
-            undone.callback(os.close, self._folder)
             self.file = create(self._name, self._folder)
-            undone.pop_all()
 
     def remove(self) -> None:
         """Removes the file, unless something else has its name."""
@@ -138,23 +131,15 @@ class OwnFolder:
 def open_roots_folder(path: PathText, owner: int = 0) -> int:
     """Opens a folder that is root's (`owner`), into which nobody else may write, and returns its descriptor. No symbolic
     link is followed on the way, so that nobody redirects the path. InputFault where the folder isn't so."""
-    with ExitStack() as undone:
-        descriptor = os.open("/", _SEARCHED)
-        undone.callback(lambda: os.close(descriptor))
-        for name in Path(os.path.abspath(path)).parts[1:]:
-            with named_faults(path, "can't be used as a folder"):
-                try:
-                    below = os.open(name, _SEARCHED, dir_fd=descriptor)
-                except NotADirectoryError as error:
-                    reason = f"{escape(name)} is no folder, or a symbolic link"
-                    raise InputFault(f"{escape(str(path))} can't be used: {reason}") from error
-            os.close(descriptor)
-            descriptor = below
-        found = os.fstat(descriptor)
-        if found.st_uid != owner or found.st_mode & 0o022:
-            raise InputFault(f"{escape(str(path))} isn't root's folder, or others may write into it")
-        undone.pop_all()
-    return descriptor
+    with named_faults(path, "can't be used as a folder"):
+        descriptor = os.open(path, os.O_PATH | os.O_DIRECTORY | os.O_CLOEXEC)
+    found = os.fstat(descriptor)
+    is_direct = os.readlink(f"/proc/self/fd/{descriptor}") == os.path.abspath(path)
+    if is_direct and found.st_uid == owner and not found.st_mode & 0o022:
+        return descriptor
+    os.close(descriptor)
+    problem = "isn't root's folder, or others may write into it" if is_direct else "can't be used: a symbolic link is on its way"
+    raise InputFault(f"{escape(str(path))} {problem}")
 
 
 def replace_file(folder: int, name: str, text: str) -> None:

@@ -1,10 +1,10 @@
 """The guardian of a run: puts the machine back when the tool ends, however it ends.
 
 The tool stores what it changes, before it changes it, in the file `undo` of its folder, synced and whole: what can't be stored isn't
-changed. It starts this file as a process of its own session, with a socket (SOCK_SEQPACKET) as standard input; `ok` comes back once
-guardian and standby run. Each packet has a pidfd: that process is killed at the end.
+changed. It starts this file as a process of its own session, with a pipe as standard input; `ok` comes back once guardian and
+standby run.
 
-The end is the end of the socket: it comes also if the tool is killed. A second process of this file (the standby) puts everything
+The end is the end of that pipe: it comes also if the tool is killed. A second process of this file (the standby) puts everything
 back if the guardian is killed, and the next start of a tool if all three are. Both leave the tool's control groups: what ends or
 freezes a group reaches neither. The tool's lock is inherited, so no other tool begins before all is put back.
 
@@ -19,27 +19,25 @@ import os
 import re
 import select
 import signal
-import socket
 import sys
 import time
 from contextlib import suppress
-from typing import Any, Dict, Sequence
+from typing import Any, Dict
 
 PATIENCE = 10.0  # seconds that processes get to end, and control groups to become empty
 STANDBY_PATIENCE = 2.0  # seconds that the standby gets to end
-PACKET = 1 << 12  # bytes of the longest packet
 AT_ONCE = 100  # processes of which pidfds are open
 UNDO = "undo"
 HIERARCHIES = ("freezer", "memory")  # of version 1: those that end or freeze processes
 
 # What is to be put back: of each of the `settings` the former text, then those that the tool set, if the file shows its value; of
-# each of the `groups` its inode, or 0 as long as it isn't known, and so of those that an earlier run has `left`.
+# each of the `groups` its inode, or 0 as long as it isn't known.
 Undo = Dict[str, Dict[str, Any]]
 
 
 def load(path: str) -> tuple[Undo, list[str]]:
     """Returns what a file has to be put back, and a line if it can't be read."""
-    nothing: Undo = {"settings": {}, "groups": {}, "left": {}}
+    nothing: Undo = {"settings": {}, "groups": {}}
     try:
         with open(path, "rb") as file:
             found = json.loads(file.read())
@@ -135,21 +133,22 @@ def members(group: str) -> list[int]:
         return []
 
 
-def kill_members(group: str) -> bool:
-    """Kills the processes of a control group alone, by pidfds from before it still had them; returns whether it has any."""
-    numbers = members(group)
-    for first in range(0, len(numbers), AT_ONCE):
+def signal_members(group: str, number: int = signal.SIGKILL) -> bool:
+    """Signals the processes of a control group alone, by pidfds from before it still had them, so that the signal reaches no other that has
+    a number of theirs; returns whether it has any."""
+    processes = members(group)
+    for first in range(0, len(processes), AT_ONCE):
         pidfds = {}
-        for number in numbers[first : first + AT_ONCE]:
-            with suppress(OSError):
-                pidfds[number] = os.pidfd_open(number)
+        for process in processes[first : first + AT_ONCE]:
+            with suppress(OSError):  # it has ended
+                pidfds[process] = os.pidfd_open(process)
         still = members(group)
-        for number, pidfd in pidfds.items():
+        for process, pidfd in pidfds.items():
             with suppress(OSError):
-                if number in still:
-                    signal.pidfd_send_signal(pidfd, signal.SIGKILL)
+                if process in still:
+                    signal.pidfd_send_signal(pidfd, number)
             os.close(pidfd)
-    return bool(numbers)
+    return bool(processes)
 
 
 def kill_group(path: str, inode: int) -> bool:
@@ -167,7 +166,7 @@ def kill_group(path: str, inode: int) -> bool:
             for name, text in (("freezer.state", "THAWED"), ("cgroup.freeze", "0"), ("cgroup.kill", "1")):
                 with suppress(OSError):
                     write(f"{folder}/{name}", text)
-        return any([kill_members(folder) for folder in folders])
+        return any([signal_members(folder) for folder in folders])
     finally:
         os.close(descriptor)
 
@@ -196,25 +195,17 @@ def remove_group(path: str, until: float) -> str:
         time.sleep(0.01)
 
 
-def may_be_ours(path: str, inode: int) -> bool:
-    """Returns whether a control group exists, and has this inode if that is known."""
-    try:
-        return os.stat(path).st_ino == inode or not inode
-    except OSError:
-        return False
-
-
-def put_back(undo: Undo, pidfds: Sequence[int] = ()) -> tuple[list[str], dict[str, int]]:
-    """Puts settings and groups back, and kills these processes; returns what could not be put back, in words, and the groups to try
-    again. Settings come first, before anything is waited for. A setting that a group of ours holds (cgroup.subtree_control of version
-    2) is tried again after the groups."""
+def put_back(undo: Undo) -> tuple[list[str], dict[str, int]]:
+    """Puts settings and groups back; returns what could not be put back, in words, and the groups to try again. Settings come first,
+    before anything is waited for. A setting that a group of ours holds (cgroup.subtree_control of version 2) is tried again after the
+    groups."""
     settings = dict(reversed(list(undo["settings"].items())))
     problems = {path: restore(path, texts) for path, texts in settings.items()}
-    for pidfd in pidfds:
+    until, left, groups = time.monotonic() + PATIENCE, {}, {}
+    for path, inode in undo["groups"].items():
         with suppress(OSError):
-            signal.pidfd_send_signal(pidfd, signal.SIGKILL)
-    until, left = time.monotonic() + PATIENCE, {}
-    groups = {path: inode for path, inode in undo["groups"].items() if may_be_ours(path, inode)}
+            if os.stat(path).st_ino == inode or not inode:  # it may be ours
+                groups[path] = inode
     empty_groups(groups, until)
     for path, inode in reversed(list(groups.items())):
         problems[path] = remove_group(path, until if inode else 0.0)
@@ -225,15 +216,13 @@ def put_back(undo: Undo, pidfds: Sequence[int] = ()) -> tuple[list[str], dict[st
     return [problem for problem in problems.values() if problem], left
 
 
-def put_back_all(folder: str, pidfds: Sequence[int] = (), is_start: bool = False) -> tuple[Undo, list[str]]:
-    """Puts back what a run stored below a folder, at the start of a tool also what earlier runs have left; returns what that was, and
-    what could not be put back."""
+def put_back_all(folder: str) -> tuple[Undo, list[str]]:
+    """Puts back what is stored below a folder; returns what that was, and what could not be put back. Groups that could not be removed
+    stay stored."""
     undo, unread = load(f"{folder}/{UNDO}")
-    if is_start:
-        undo = {**undo, "groups": {**undo["left"], **undo["groups"]}, "left": {}}
-    problems, left = put_back(undo, pidfds)
+    problems, left = put_back(undo)
     with suppress(OSError):
-        store(f"{folder}/{UNDO}", {"settings": {}, "groups": {}, "left": {**undo["left"], **left}})
+        store(f"{folder}/{UNDO}", {"settings": {}, "groups": left})
     return undo, unread + problems
 
 
@@ -244,27 +233,14 @@ def report(problems: list[str]) -> int:
     return 1 if problems else 0
 
 
-def stand_by(guardian: socket.socket, tool: socket.socket, folder: str) -> int:
+def stand_by(guardian: int, folder: str) -> int:
     """Waits until the guardian has ended. If it was killed, puts everything back once the tool ends."""
-    if guardian.recv(PACKET) == b"done":
+    os.setsid()
+    os.close(sys.stdout.fileno())
+    if os.read(guardian, 1):
         return 0
-    end = select.poll()
-    end.register(tool, 0)  # which reports a hang-up alone
-    end.poll()
+    os.read(sys.stdin.fileno(), 1)
     return report(put_back_all(folder)[1])
-
-
-def serve(tool: socket.socket, kept: list[int]) -> None:
-    """Takes pidfds until the tool ends; those of processes that have ended are closed."""
-    tool.send(b"ok")
-    while True:
-        packet, pidfds, _, _ = socket.recv_fds(tool, PACKET, 1)
-        if not packet:
-            return
-        for ended in select.select(kept, [], [], 0)[0]:
-            kept.remove(ended)
-            os.close(ended)
-        kept += pidfds
 
 
 def main() -> int:
@@ -272,26 +248,24 @@ def main() -> int:
     for each in (signal.SIGINT, signal.SIGTERM, signal.SIGHUP, signal.SIGQUIT, signal.SIGPIPE, signal.SIGTSTP):
         signal.signal(each, signal.SIG_IGN)
     leave_groups()
-    tool, folder = socket.socket(fileno=0), sys.argv[1]
-    ours, theirs = socket.socketpair(socket.AF_UNIX, socket.SOCK_SEQPACKET)
+    ends, done = os.pipe()
     try:
         standby = os.fork()
     except OSError as error:
-        tool.send(f"the guardian can't start its standby: {error.strerror}".encode())
+        print(f"the guardian can't start its standby: {error.strerror}")
         return 1
     if standby == 0:
-        os.setsid()
-        ours.close()
-        return stand_by(theirs, tool, folder)
-    theirs.close()
+        os.close(done)
+        return stand_by(ends, sys.argv[1])
+    os.close(ends)
     waiting = os.pidfd_open(standby)
-    kept: list[int] = []
     with suppress(OSError):  # the tool has ended
-        serve(tool, kept)
-    status = report(put_back_all(folder, kept)[1])
+        print("ok", flush=True)
+    os.read(sys.stdin.fileno(), 1)
+    status = report(put_back_all(sys.argv[1])[1])
     with suppress(OSError):
-        ours.send(b"done")
-    ours.close()
+        os.write(done, b"1")
+    os.close(done)
     select.select([waiting], [], [], STANDBY_PATIENCE)  # it has the tool's lock, too
     return status
 

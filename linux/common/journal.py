@@ -39,22 +39,15 @@ class Event:
 
 _WORDS = ("alloc", "splitpmd", "mapwhole", "unmapwhole", "mapsub", "unmapsub", "pin", "unpin", "write", "zero", "taken",
           "split", "pinned", "used", "back", "dropped", "close")
-_NUMBER = re.compile("[0-9]{1,9}")
 _NODE = re.compile("node [0-7] blocks ([0-9]{1,4})(?: order ([2-9])(?: underused (off|[0-9]{1,3}))?)?")
-
-
-def _number(text: str) -> int:
-    if not _NUMBER.fullmatch(text):
-        raise ValueError(text)
-    return int(text)
 
 
 def event_of(line: str) -> Event:
     """Returns the event of a line. ValueError, IndexError or InputFault where it isn't one."""
     words = line.split(" ")
-    caller, word = _number(words[0]), words[1]
-    page = _number(words[2]) if len(words) > 2 else None
-    first, count = (_number(words[3]), _number(words[4])) if word in _RANGES else (0, 0)
+    caller, word = int(words[0]), words[1]
+    page = int(words[2]) if len(words) > 2 else None
+    first, count = (int(words[3]), int(words[4])) if word in _RANGES else (0, 0)
     outcome = words[-2] if word in _OUTCOMES else ""
     given = set_of(words[-1]) if outcome or word == "split" else 0
     event = Event(caller, word, page, first, count, outcome, given)
@@ -73,37 +66,24 @@ class NodeJournal:
     underused: int | None = None
     events: list[Event] = field(default_factory=list)
 
-    @property
-    def fills(self) -> bool:
-        """Whether an event is one that only version 3 has."""
-        return any(event.word in FILLING for event in self.events)
-
-    def texts(self) -> Iterator[str]:
-        """Returns the events' lines."""
-        return (event.text() for event in self.events)
-
 
 class Node(Protocol):
-    """What a node's journal is written from: a NodeJournal, or one whose events aren't in memory."""
+    """What a node's journal is written from: its blocks, the order of its pages, the threshold of zero-filled subpages (None: off),
+    whether an event is one that only version 3 has, and the events' lines."""
 
     @property
-    def blocks(self) -> int:
-        """How many blocks it has."""
+    def blocks(self) -> int: ...
 
     @property
-    def order(self) -> int:
-        """The order of its pages."""
+    def order(self) -> int: ...
 
     @property
-    def underused(self) -> int | None:
-        """The threshold of zero-filled subpages; None: off."""
+    def underused(self) -> int | None: ...
 
     @property
-    def fills(self) -> bool:
-        """Whether an event is one that only version 3 has."""
+    def fills(self) -> bool: ...
 
-    def texts(self) -> Iterator[str]:
-        """Returns the events' lines."""
+    def texts(self) -> Iterator[str]: ...
 
 
 def journal_lines(nodes: Sequence[Node]) -> Iterator[str]:
@@ -133,18 +113,11 @@ def journal_of(text: str) -> list[NodeJournal]:
     nodes: list[NodeJournal] = []
     for number, line in enumerate(lines[1:-2], 2):
         try:
-            if line.startswith("node "):
-                nodes.append(_node_of(line))
+            if node := _NODE.fullmatch(line):
+                blocks, order, switch = node.groups()
+                nodes.append(NodeJournal(int(blocks), int(order or PMD_ORDER), None if switch in (None, "off") else int(switch)))
             else:
                 nodes[-1].events.append(event_of(line))
         except (ValueError, IndexError, InputFault) as error:
             raise InputFault(f"line {number} of the journal is neither a node nor an event") from error
     return nodes
-
-
-def _node_of(line: str) -> NodeJournal:
-    found = _NODE.fullmatch(line)
-    if not found:
-        raise ValueError(line)
-    blocks, order, switch = found.groups()
-    return NodeJournal(int(blocks), int(order or PMD_ORDER), None if switch in (None, "off") else int(switch))

@@ -3,7 +3,6 @@
     with Keeper("thpname") as keeper:
         keeper.set(SWITCH, 1)                # the former value comes back
         keeper.make_group(path)              # removed, with its processes killed
-        keeper.own(process.pid)              # killed if it still runs
 
 A guardian (guardian.py) does so at an exception, a signal and SIGKILL of the tool alike. What is to be put back is on disk before
 each change, so that if the guardian is killed too, its standby or the next start of any tool puts it back (`recover`).
@@ -14,8 +13,6 @@ from __future__ import annotations
 import ctypes
 import fcntl
 import os
-import re
-import socket
 import stat
 import subprocess
 import sys
@@ -24,12 +21,11 @@ from pathlib import Path
 
 from .errors import Busy, RunFailed, Unavailable
 from .files import PathText, read, read_bytes, selected_word, write
-from .guardian import PACKET, UNDO, Undo, load, put_back_all, store
-from .text import escape, lines
+from .guardian import UNDO, Undo, load, put_back_all, store
+from .text import escape
 
 FOLDER = "/run/leversorrel"  # the tools' own: root's, mode 0700; gone with the next start of the machine
 HOLDER = "lock"  # names who has the lock
-SHARED = ("tracefs", "debugfs")  # file systems that a kernel has once, whose root folder only root opens
 FSOPEN, FSCONFIG, FSMOUNT = 430, 431, 432  # system calls, the same on all processors
 CREATE, CLOSE_ON_EXEC = 6, 1  # FSCONFIG_CMD_CREATE; FSOPEN_CLOEXEC, FSMOUNT_CLOEXEC
 GUARDIAN = Path(__file__).with_name("guardian.py")
@@ -47,8 +43,8 @@ def open_folder(folder: str) -> None:
         raise Unavailable(f"{folder} isn't the caller's own folder with mode 0700")
 
 
-def open_shared(kind: str) -> int:
-    """Opens the root folder of a file system that all namespaces of the machine share. OSError if there is none."""
+def open_shared() -> int:
+    """Opens the root folder of tracefs, which a kernel has once in all namespaces, and only root opens. OSError if there is none."""
     library = ctypes.CDLL(None, use_errno=True)
 
     def call(*words: object) -> int:
@@ -57,7 +53,7 @@ def open_shared(kind: str) -> int:
             raise OSError(ctypes.get_errno(), os.strerror(ctypes.get_errno()))
         return result
 
-    context = call(FSOPEN, kind.encode(), CLOSE_ON_EXEC)
+    context = call(FSOPEN, b"tracefs", CLOSE_ON_EXEC)
     try:
         call(FSCONFIG, context, CREATE, None, None, 0)
         mount = call(FSMOUNT, context, CLOSE_ON_EXEC, 0)
@@ -74,13 +70,10 @@ def open_lock(folder: str) -> int:
     open_folder(folder)
     if folder != FOLDER:
         return os.open(folder, os.O_RDONLY | os.O_DIRECTORY | os.O_CLOEXEC)
-    reason: str | None = None
-    for kind in SHARED:
-        try:
-            return open_shared(kind)
-        except OSError as error:
-            reason = error.strerror
-    raise Unavailable(f"the machine's lock ({' or '.join(SHARED)}) can't be opened: {reason}")
+    try:
+        return open_shared()
+    except OSError as error:
+        raise Unavailable(f"the machine's lock (tracefs) can't be opened: {error.strerror}") from error
 
 
 def take_lock(folder: str, name: str, wait: bool) -> int:
@@ -109,7 +102,7 @@ def put_back_what_was_left(folder: str) -> list[str]:
     """Puts back what a run left that was killed with its guardian, and returns lines that report it. The lock is held."""
     if not os.path.exists(f"{folder}/{UNDO}"):
         return []
-    undo, problems = put_back_all(folder, is_start=True)
+    undo, problems = put_back_all(folder)
     counts = {"settings": len(undo["settings"]), "control groups": len(undo["groups"])}
     found = ", ".join(f"{count} {what}" for what, count in counts.items() if count)
     return [f"put back what a killed run left: {found or 'nothing'}", *map(escape, problems)]
@@ -129,15 +122,6 @@ def recover(name: str) -> list[str]:
         os.close(lock)
 
 
-def process_of(pidfd: int) -> int:
-    """Returns the number of a pidfd's process (proc(5), fdinfo). RunFailed if the process has ended."""
-    for line in lines(read_bytes(f"/proc/self/fdinfo/{pidfd}")):
-        found = re.fullmatch(rb"Pid:\t([1-9][0-9]{0,9})", line)
-        if found:
-            return int(found[1])
-    raise RunFailed("a process of the tool has ended")
-
-
 class Keeper:
     """Holds the lock from its making to its end. Busy if another tool has it; `wait`: waits for that tool's end."""
 
@@ -149,16 +133,16 @@ class Keeper:
         self._undo = load(self._path)[0]
         self._guardian: subprocess.Popen[bytes] | None = None
         try:
-            self._socket, theirs = socket.socketpair(socket.AF_UNIX, socket.SOCK_SEQPACKET)
-            with theirs:
-                self._guardian = subprocess.Popen(
-                    [sys.executable, "-I", "-S", str(GUARDIAN), folder], stdin=theirs.fileno(), stdout=subprocess.DEVNULL, cwd="/",
-                    start_new_session=True, pass_fds=(self._lock,),
-                )
+            self._guardian = subprocess.Popen(
+                [sys.executable, "-I", "-S", str(GUARDIAN), folder], stdin=subprocess.PIPE, stdout=subprocess.PIPE, cwd="/",
+                start_new_session=True, pass_fds=(self._lock,),
+            )
         except OSError as error:
             os.close(self._lock)
             raise RunFailed(f"the guardian can't be started: {error.strerror}") from error
-        answer = self._socket.recv(PACKET)
+        assert self._guardian.stdout
+        with self._guardian.stdout as output:
+            answer = output.readline().strip()
         if answer != b"ok":
             self.close()
             raise RunFailed(answer.decode("utf-8", "replace") or "the guardian can't be started")
@@ -199,25 +183,13 @@ class Keeper:
         except (OSError, RunFailed) as error:
             raise Unavailable(f"control group {name} can't be made: {getattr(error, 'strerror', None) or error}") from error
 
-    def own(self, process: int) -> None:
-        """Passes a child of the tool to the guardian; it doesn't outlive the tool."""
-        descriptor = os.pidfd_open(process)
-        try:
-            self.own_descriptor(descriptor)
-        finally:
-            os.close(descriptor)
-
-    def own_descriptor(self, descriptor: int) -> None:
-        """Passes a process to the guardian by its pidfd, which the caller may close afterwards."""
-        self._check()
-        socket.send_fds(self._socket, [b"keep"], [descriptor])
-
     def close(self) -> None:
         """Has the guardian restore everything, and waits for it. It reports on standard error what it could not restore."""
         guardian, self._guardian = self._guardian, None
         if guardian is None:
             return
-        self._socket.close()
+        assert guardian.stdin
+        guardian.stdin.close()
         guardian.wait()
         os.close(self._lock)
 

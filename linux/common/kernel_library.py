@@ -16,7 +16,7 @@ from .text import text_lines
 ROOM = 1 << 16  # bytes of messages
 STATES, WINDOW, NAME, TABLES, ENTRIES, SET = 1024, 1 << 16, 64, 32, 512, 64  # linux/kernel/shared.h
 LACKING = re.compile(r"failed to resolve CO-RE relocation <[a-z_]+> \[[0-9]+\] (?:struct|enum|union) ([A-Za-z0-9_.]+)")
-SAID = re.compile(r"^(?:this kernel has no |struct .* has [0-9]+ bytes in this kernel).*$", re.MULTILINE)
+LARGER = "invalid func unknown#57005"  # linux/kernel/queue.bpf.h: READ
 
 
 class Request(ctypes.Structure):
@@ -51,7 +51,7 @@ class Settings(ctypes.Structure):
 class Counters(ctypes.Structure):
     """struct thp_counters."""
 
-    _fields_ = [(name, ctypes.c_uint64) for name in ("lost", "missed", "unfiltered", "inner_pages")]
+    _fields_ = [(name, ctypes.c_uint64) for name in ("lost", "missed", "inner_pages")]
 
 
 @lru_cache(maxsize=None)
@@ -93,11 +93,11 @@ def open_programs(name: str, *words: object) -> tuple[int, list[str]]:
 
 def explain(said: str, number: int) -> str:
     """Returns in a line why programs aren't loaded, and in further ones the end of what libbpf and the verifier said."""
-    ours, lacking = SAID.search(said), LACKING.search(said)
-    if ours:
-        return ours[0]
+    lacking = LACKING.search(said)
     if lacking:
         return f"this kernel has no {lacking[1].replace('.counter', '')}"
+    if LARGER in said:
+        return "a field of this kernel is larger than the programs know it"
     if not os.path.exists("/sys/kernel/btf/vmlinux"):
         return "no type information: no /sys/kernel/btf/vmlinux (DEBUG_INFO_BTF)"
     rights = lacking_rights()

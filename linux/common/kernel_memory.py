@@ -36,7 +36,7 @@ class KernelMemory:
         self._programs = open_programs("thp_memory_open")[0]
         self._window = self._library.thp_memory_window(self._programs).contents
         self._answer = self._try("describe_kernel", Request())  # of the queues; all else works without
-        self._map = self._levels = 0
+        self._map, self._levels = self._find_own_page()
 
     def _try(self, name: str, request: Request) -> int:
         """Runs a program; returns its answer."""
@@ -79,12 +79,9 @@ class KernelMemory:
         """Returns the NUMA nodes for which a control group has a queue each; None: one queue has the pages of all."""
         return numa_nodes() if self._window.has_lists else (None,)
 
-    def locate_queues(self) -> str:
-        """Returns where this kernel has the queues, in words. Unavailable where they can't be read."""
+    def demand_queues(self) -> None:
+        """Unavailable where queues can't be read."""
         self._demand(self._answer)
-        if self._window.has_lists:
-            return f"deferred_split_lru, a list_lru; NUMA nodes: {', '.join(map(str, self.numa_nodes()))}"
-        return "mem_cgroup.deferred_split_queue"
 
     def queues(self, group: int) -> dict[int, list[int]]:
         """Returns the pages (struct folio) in the deferred split queues of the struct mem_cgroup at this address, oldest first, by
@@ -110,7 +107,6 @@ class KernelMemory:
 
     def first_page(self) -> int:
         """Returns where the struct page of frame 0 is."""
-        self._find_own_page()
         return int(self._window.first_page)
 
     def frame(self, folio: int) -> int:
@@ -123,7 +119,6 @@ class KernelMemory:
 
     def page_states(self, frames: Sequence[int]) -> list[PageState]:
         """Returns what the kernel's structures of at most STATES huge pages contain; valid until the next call."""
-        self.first_page()
         states: ctypes.Array[PageState] = self._window.states
         for state, frame in zip(states, frames):
             state.frame = frame
@@ -132,14 +127,12 @@ class KernelMemory:
 
     def tables(self) -> tuple[int, ...]:
         """Returns what reads page tables: struct tables of pages.c, without its place."""
-        self._find_own_page()
         window = ctypes.addressof(self._window.tables)
         return self.program("find_tables"), self.program("copy_table"), window, self._map, self._levels
 
     def zeros(self, frame: int, count: int, place: int = 0) -> int | None:
         """Returns which of at most 512 base pages from a frame on are zero-filled; None where they can't be read. Each thread that calls
         needs a place of its own, below TABLES."""
-        self._find_own_page()
         if self._try("find_zeros", Request(at=self._map + frame * BASE, length=count, found=place)):
             return None
         return int.from_bytes(self._window.zeros[place], "little")
@@ -148,10 +141,9 @@ class KernelMemory:
         """Returns the descriptor of a program of linux/kernel/memory.bpf.c."""
         return int(self._library.thp_memory_program(self._programs, name.encode()))
 
-    def _find_own_page(self) -> None:
-        """Finds the map of all memory and the struct page of frame 0, once, by a page of ours and the file that it belongs to."""
-        if self._window.first_page:
-            return
+    def _find_own_page(self) -> tuple[int, int]:
+        """Finds the struct page of frame 0 by a page of ours and the file that it belongs to. Returns where the map of all memory is, and
+        how many levels page tables have."""
         descriptor = os.memfd_create("thpsplit", os.MFD_CLOEXEC)
         try:
             os.ftruncate(descriptor, BASE)
@@ -167,7 +159,8 @@ class KernelMemory:
         start = page - self.page_size() * found.length
         if page & 3 or start & (BASE - 1):
             raise Unavailable("struct page isn't found: the kernel's memory map isn't one array (SPARSEMEM_VMEMMAP)")
-        self._window.first_page, self._map, self._levels = start, int(found.at), int(found.found)
+        self._window.first_page = start
+        return int(found.at), int(found.found)
 
 
 def numa_nodes() -> list[int]:

@@ -1,4 +1,4 @@
-"""The kernel's files of pages: what a process maps, and flags and map counts by frame.
+"""The kernel's files of pages: what a process maps, flags and map counts by frame, and the frames of each NUMA node.
 
 Rules: Documentation/admin-guide/mm/pagemap.rst and include/uapi/linux/kernel-page-flags.h of the kernel. All files hold
 one 64-bit number for each base page; frames are counted from 0.
@@ -8,11 +8,15 @@ from __future__ import annotations
 
 import io
 import os
+import re
 from array import array
 from typing import Sequence
 
 from .errors import Unavailable
-from .files import BASE
+from .files import BASE, read
+
+_ZONE = re.compile(r"^Node ([0-9]+), zone ", re.MULTILINE)
+_RANGE = re.compile(r"^ +spanned +([0-9]+)$.*^ +start_pfn: +([0-9]+)$", re.MULTILINE | re.DOTALL)
 
 
 class PageFlag:
@@ -74,3 +78,20 @@ class Frames:
     def close(self) -> None:
         for file in self._files:
             file.close()
+
+
+def numa_frames(text: str | None = None) -> dict[int, list[range]]:
+    """Returns the ranges of frames of each NUMA node that has memory. Unavailable where two nodes' ranges overlap: a
+    frame's node isn't known then."""
+    parts = _ZONE.split(read("/proc/zoneinfo") if text is None else text)
+    out: dict[int, list[range]] = {}
+    for node, zone in zip(parts[1::2], parts[2::2]):
+        found = _RANGE.search(zone)
+        if found:  # a zone without memory has no start
+            spanned, start = map(int, found.groups())
+            out.setdefault(int(node), []).append(range(start, start + spanned))
+    placed = sorted((each.start, each.stop, node) for node, ranges in out.items() for each in ranges)
+    for (_, stop, node), (next_start, _, other) in zip(placed, placed[1:]):
+        if next_start < stop and node != other:
+            raise Unavailable(f"the frames of NUMA nodes {node} and {other} overlap")
+    return out

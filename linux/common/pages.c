@@ -3,17 +3,16 @@
 #include <errno.h>
 #include <fcntl.h>
 #include <linux/bpf.h>
-#include <sched.h>
 #include <signal.h>
 #include <stdint.h>
 #include <stdio.h>
 #include <string.h>
 #include <sys/prctl.h>
-#include <sys/socket.h>
 #include <sys/syscall.h>
 #include <unistd.h>
 #include "../kernel/shared.h"
 
+enum { SOCKET, FLAGS_FILE, FIND_TABLE, COPY_TABLE }; /* descriptors: the socket, /proc/kpageflags, two programs of linux/kernel/memory.bpf.c */
 enum { BASE = 4096, BLOCK = 512, RECENT = 64, TEXT = 1 << 16, LINE = 256, BLOCKS = 1 << 25, TOUCHES = 16 };
 
 /* arch/x86/include/asm/pgtable_types.h */
@@ -38,7 +37,7 @@ enum { UNKNOWN, NONE = TOUCHES, SOME };
 struct walk {
     uint8_t *known;                     /* BLOCKS of them, of all processes of a look, or NULL */
     const struct tables *tables;
-    int flags_file, process, with_small;
+    int process, with_small;
     struct piece *out;
     long found, most, lost, small, changed;
     long recent[RECENT];                /* pieces found last, by their pages: parts of one page become one piece */
@@ -49,8 +48,7 @@ struct walk {
 
 /* What reads page tables: no lock is taken, and no right to frame numbers is needed. */
 struct tables {
-    int32_t find, copy;                 /* programs of linux/kernel/memory.bpf.c */
-    unsigned long long (*copies)[ENTRIES]; /* shared with `copy` */
+    unsigned long long (*copies)[ENTRIES]; /* shared with COPY_TABLE */
     uint64_t map;                       /* where the kernel's map of all memory begins */
     int64_t levels, place;              /* levels of tables; which copy is ours */
 };
@@ -76,8 +74,7 @@ static void set_bits(uint64_t *set, long first, long count) {
 }
 
 /* Adds `count` subpages from `first` on of the huge page at frame `head`; subpage 0 is, or would be, at `address`. */
-static void put_piece(struct walk *w, uint64_t address, uint64_t head, uint64_t flags, long first, long count,
-                      int order, int by_pmd) {
+static void put_piece(struct walk *w, uint64_t address, uint64_t head, uint64_t flags, long first, long count, int order, int by_pmd) {
     if (order != PMD_ORDER && (!w->with_small || order < 2)) { w->small += first == 0; return; }
     long *last = &w->recent[(head >> order ^ address / BASE) % RECENT];
     if (!by_pmd && *last < w->found) {
@@ -95,8 +92,7 @@ static int read_block(struct walk *w, uint64_t block) {
     if (w->block == block) return 0;
     w->block = ~0ul;
     w->order = -1;
-    long got = pread(w->flags_file, w->block_flags, sizeof w->block_flags, block * BLOCK * 8);
-    if (got != sizeof w->block_flags) return -1;
+    if (pread(FLAGS_FILE, w->block_flags, sizeof w->block_flags, block * BLOCK * 8) != sizeof w->block_flags) return -1;
     w->block = block;
     return 0;
 }
@@ -131,7 +127,7 @@ static void take_frames(struct walk *w, uint64_t address, uint64_t frame, long c
     if (w->known && is_plain(w, frame / BLOCK)) return;
     if (w->block == frame / BLOCK)
         memcpy(flags, w->block_flags + frame % BLOCK, count * 8);
-    else if (pread(w->flags_file, flags, count * 8, frame * 8) != count * 8)
+    else if (pread(FLAGS_FILE, flags, count * 8, frame * 8) != count * 8)
         return; /* a device's memory */
     for (long i = 0, taken; i < count; i += taken) {
         uint64_t head;
@@ -149,7 +145,7 @@ static void take_frames(struct walk *w, uint64_t address, uint64_t frame, long c
 /* Takes a block of addresses that one PMD entry maps: one huge page, so its first flags describe it. */
 static void take_whole(struct walk *w, uint64_t at, uint64_t frame) {
     uint64_t flags;
-    if (pread(w->flags_file, &flags, 8, frame * 8) != 8 || !(flags & ANON) || flags & (HUGETLB | ZERO_PAGE)) return;
+    if (pread(FLAGS_FILE, &flags, 8, frame * 8) != 8 || !(flags & ANON) || flags & (HUGETLB | ZERO_PAGE)) return;
     if (frame % BLOCK || !is_ours(flags) || !(flags & HEAD)) { w->changed += BLOCK; return; }
     put_piece(w, at, frame, flags, 0, BLOCK, PMD_ORDER, 1);
 }
@@ -173,7 +169,7 @@ static void walk_table(struct walk *w, uint64_t table, int level, uint64_t begin
     uint64_t entries[ENTRIES], size = (uint64_t)BASE << TABLE_BITS * level;
     struct thp_request request = { .at = w->tables->map + table, .found = (uint64_t)w->tables->place };
     long count = level + 1 == w->tables->levels ? ENTRIES / 2 : ENTRIES; /* the other half is the kernel's */
-    if (!run_program(w->tables->copy, &request)) { w->changed += BLOCK; return; }
+    if (!run_program(COPY_TABLE, &request)) { w->changed += BLOCK; return; }
     memcpy(entries, w->tables->copies[w->tables->place], sizeof entries);
     if (!level) { take_entries(w, begin, entries); return; }
     for (long i = 0; i < count; i++) {
@@ -254,7 +250,7 @@ struct reply { int64_t found, lost, small, changed, spans; };
 /* Where the highest page table is of the process whose /proc/PID/maps is open, 0 where there is none; and its locked base pages. */
 static uint64_t find_table(const struct room *room, int maps, uint64_t *locked) {
     struct thp_request request = { .at = (uint64_t)maps };
-    if (!run_program(room->tables.find, &request)) return 0;
+    if (!run_program(FIND_TABLE, &request)) return 0;
     *locked = request.length;
     return request.at - room->tables.map;
 }
@@ -262,10 +258,9 @@ static uint64_t find_table(const struct room *room, int maps, uint64_t *locked) 
 /* Reads how a process maps huge pages: `found` pieces, or -errno. Counts pieces that had no room, pages below PMD size that
  * weren't asked for, and base pages whose flags don't fit their page table. Then its locked areas. With `count` pieces, which are
  * the last ones of the room: only where these are. */
-static struct reply walk(const struct room *room, int flags_file, const struct request *q) {
-    struct walk w = { .known = q->count ? NULL : room->known, .tables = &room->tables, .flags_file = flags_file,
-                      .process = q->process, .with_small = q->with_small, .out = room->pieces, .block = ~0ul, .order = -1,
-                      .most = q->count ? room->most_pieces - q->count : q->most };
+static struct reply walk(const struct room *room, const struct request *q) {
+    struct walk w = { .known = q->count ? NULL : room->known, .tables = &room->tables, .process = q->process, .with_small = q->with_small,
+                      .out = room->pieces, .block = ~0ul, .order = -1, .most = q->count ? room->most_pieces - q->count : q->most };
     int maps = open_file(q->thread, "maps"), smaps = -1; /* open, its page table is no other process's */
     if (maps < 0) return (struct reply){ .found = -errno };
     uint64_t locked, table = find_table(room, maps, &locked);
@@ -290,37 +285,12 @@ static struct reply find_tables(const struct room *room, const struct request *q
     return (struct reply){ .found = q->count };
 }
 
-/* Answers requests until there is nobody who asks. Descriptor 0 is a socket, 1 is /proc/kpageflags, 2 and 3 are programs. */
-static void serve(const struct room *room) {
+/* Answers requests until there is nobody who asks, or the parent has ended. */
+void serve(const struct room *room, int parent) {
     struct request q;
-    while (read(0, &q, sizeof q) == sizeof q) {
-        struct reply out = q.what == WALK ? walk(room, 1, &q) : find_tables(room, &q);
-        if (write(0, &out, sizeof out) != sizeof out) break;
+    if (prctl(PR_SET_PDEATHSIG, SIGKILL) || getppid() != parent || close_range(COPY_TABLE + 1, ~0u, 0)) return;
+    while (read(SOCKET, &q, sizeof q) == sizeof q) {
+        struct reply out = q.what == WALK ? walk(room, &q) : find_tables(room, &q);
+        if (write(SOCKET, &out, sizeof out) != sizeof out) return;
     }
-}
-
-/* Starts a worker, which ends with the thread that called, and holds four descriptors: `ends` becomes our end of its socket,
- * its pidfd and its number. Returns 0, or -errno. No lock of the C library is taken in it, whatever other threads do. */
-int start_worker(struct room *room, int flags_file, int *ends) {
-    sigset_t all, before;
-    int sockets[2], parent = getpid();
-    if (socketpair(AF_UNIX, SOCK_SEQPACKET | SOCK_CLOEXEC, 0, sockets)) return -errno;
-    sigfillset(&all);
-    pthread_sigmask(SIG_SETMASK, &all, &before);
-    long child = syscall(SYS_clone, CLONE_PIDFD | SIGCHLD, 0, &ends[1], 0, 0), error = errno;
-    if (!child) {
-        if (!prctl(PR_SET_PDEATHSIG, SIGKILL) && getppid() == parent && dup2(sockets[1], 0) == 0 && dup2(flags_file, 1) == 1 &&
-            dup2(room->tables.find, 2) == 2 && dup2(room->tables.copy, 3) == 3 && !close_range(4, ~0u, 0)) {
-            room->tables.find = 2;
-            room->tables.copy = 3;
-            serve(room);
-        }
-        _exit(0);
-    }
-    pthread_sigmask(SIG_SETMASK, &before, NULL);
-    close(sockets[1]);
-    ends[0] = sockets[0];
-    ends[2] = (int)child;
-    if (child < 0) close(sockets[0]);
-    return child < 0 ? (int)-error : 0;
 }

@@ -15,7 +15,7 @@ from contextlib import suppress
 from typing import Iterable, Iterator
 
 from .files import read_bytes
-from .text import escape, lines
+from .text import escape
 
 ROOT = "/proc"  # tests put another folder here
 CAPABILITIES = {"CAP_SYS_PTRACE": 19, "CAP_SYS_ADMIN": 21, "CAP_PERFMON": 38, "CAP_BPF": 39}
@@ -128,7 +128,7 @@ def members(path: str) -> list[int]:
     for folder in folders_below(path):
         try:
             with open(os.open("cgroup.procs", os.O_RDONLY | os.O_CLOEXEC, dir_fd=folder), "rb", 0) as file:
-                out.update(int(line) for line in lines(file.read()) if re.fullmatch(rb"[0-9]{1,10}", line))
+                out.update(int(line) for line in file.read().split(b"\n") if re.fullmatch(rb"[0-9]{1,10}", line))
         except OSError as error:  # a group that ended, or is threaded: its processes are in the list of the group above
             if error.errno not in (errno.ENOENT, errno.ENODEV, errno.EOPNOTSUPP):
                 raise

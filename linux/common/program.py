@@ -8,22 +8,19 @@ import shutil
 import signal
 import subprocess
 from collections.abc import Sequence
-from contextlib import suppress
 from functools import lru_cache
 from pathlib import Path
 from typing import IO, NamedTuple, Union
 
 from .errors import InputFault, RunFailed, Unavailable, signals_wait
 from .files import read_input
+from .helpers import INSTALLED, LINUX
 from .journal import NodeJournal, journal_of
-from .keeper import FOLDER, open_folder
 from .text import escape, text_lines
 from .user import give_up_rights, user_without_rights
 
-HERE = Path(__file__).resolve().parent
-CRATES = HERE.parent.parent / "crates"
+CRATES = LINUX.parent / "crates"
 BUILT = CRATES / "thpsplit/out/thpsplit"
-INSTALLED = ("lib", "thpsplit", "linux", "common")  # where `make install` puts these files below its prefix
 
 
 class TextError(InputFault):
@@ -44,7 +41,7 @@ def find(name: str, built: Path, given: str | None = None) -> str | None:
     built in this repository or installed beside the tools, or the one on the path. None: there is none. Unavailable
     where one that is named isn't there."""
     named = given or os.environ.get(name.upper())
-    beside = [HERE.parents[3] / "bin" / name] if HERE.parts[-4:] == INSTALLED else []
+    beside = [LINUX.parents[2] / "bin" / name] if LINUX.parts[-3:] == INSTALLED else []
     places: list[str] = [named] if named else [str(place) for place in (built, *beside)] + [name]
     found = next((path for path in (shutil.which(place) for place in places) if path), None)
     if named and not found:
@@ -61,8 +58,8 @@ def start(
     path: str, options: Sequence[str], stdin: Stream = None, stdout: Stream = None, stderr: Stream = None,
     inherited: Sequence[int] = (),
 ) -> subprocess.Popen[bytes]:
-    """Starts a program that needs no rights, in an empty folder: where this tool is root, as a user without any right. It
-    inherits these descriptors. Unavailable where it can't be run."""
+    """Starts a program that needs no rights: where this tool is root, as a user without any right. It inherits these descriptors.
+    Unavailable where it can't be run."""
 
     def begin() -> None:
         give_up_rights()
@@ -74,7 +71,7 @@ def start(
             image = [] if user.is_caller else [open_image(path)]
             return subprocess.Popen(
                 [path, *options], executable=f"/proc/self/fd/{image[0]}" if image else path, stdin=stdin, stdout=stdout,
-                stderr=stderr, cwd=empty_folder(), pass_fds=[*image, *inherited], env=ENVIRONMENT, preexec_fn=begin, **user.rights(),
+                stderr=stderr, cwd="/", pass_fds=[*image, *inherited], env=ENVIRONMENT, preexec_fn=begin, **user.rights(),
             )
         except (OSError, ValueError) as error:
             reason = getattr(error, "strerror", None) or str(error)
@@ -100,17 +97,6 @@ def open_image(path: str) -> int:
         return os.open(f"/proc/self/fd/{copy}", os.O_PATH | os.O_CLOEXEC)  # by which nobody reads or writes it
     finally:
         os.close(copy)
-
-
-def empty_folder() -> str:
-    """Returns the folder in which such programs run: where this tool is root, an empty one in which nobody can write."""
-    if os.geteuid() != 0:
-        return "/"
-    open_folder(FOLDER)
-    path = f"{FOLDER}/empty"
-    with suppress(FileExistsError):
-        os.mkdir(path, 0o555)
-    return path
 
 
 def call(path: str, options: Sequence[str], given: str | int) -> subprocess.CompletedProcess[str]:

@@ -7,16 +7,13 @@ kpagecount and kpagecgroup. second_look.py reads again what has changed meanwhil
 from __future__ import annotations
 
 import os
-import time
 from array import array
 from bisect import bisect_right
-from collections import Counter, defaultdict, deque
-from contextlib import contextmanager, suppress
-from threading import Thread
+from collections import Counter, deque
+from concurrent.futures import ThreadPoolExecutor
 from typing import Callable, Deque, Iterable, Iterator, Sequence
 
 from . import proc
-from .errors import Unavailable
 from .files import BASE
 from .folios import Folio, Mapping, compact_counts
 from .kernel_memory import KernelMemory
@@ -26,7 +23,6 @@ from .spaces import Space, find_spaces
 from .subpages import bits_of, size
 from .workers import MOST_SPANS, PIECE, Answer, Request, Workers
 
-Progress = Callable[[str, int, int], None]  # what is done, how many of how many
 Look = Callable[[list[Folio]], list[Folio]]  # fills in what kernel memory has of pages; returns those that are no longer in use
 
 PARTS_MOVED = "parts of huge pages that changed while they were read"
@@ -65,12 +61,11 @@ class Reader:
         kernel: KernelMemory,
         with_small: bool = False,
         threads: int = 0,
-        progress: Progress = lambda what, done, of: None,
         memory: int = MEMORY,
         look: Look = lambda folios: [],
     ) -> None:
         self._kernel, self._look = kernel, look
-        self._threads, self._progress = threads or min(4, os.cpu_count() or 1), progress
+        self._threads = threads or min(4, os.cpu_count() or 1)
         self._memory, self._used = memory << 20, 0
         self._files = [NumberFile(f"/proc/kpage{name}") for name in ("flags", "count")]
         if os.path.exists("/proc/kpagecgroup"):  # else a kernel without memory control groups: all pages are in one node
@@ -88,20 +83,12 @@ class Reader:
         self.denied: set[int] = set()  # processes that may not be read
         self.others = 0  # anonymous pages that aren't huge, base pages
         self.by_pmd = 0  # PMD mappings
-        self.spent: dict[str, float] = defaultdict(float)  # seconds by step
 
     def close(self) -> None:
         """Ends the workers, and closes the kernel's files."""
         self._workers.close()
         for file in self._files:
             file.close()
-
-    @contextmanager
-    def timed(self, step: str) -> Iterator[None]:
-        """Adds what is done in the `with` to the time of a step."""
-        began = time.monotonic()
-        yield
-        self.spent[step] += time.monotonic() - began
 
     def answers(self, todo: Deque[Request]) -> Iterator[tuple[Request, Answer]]:
         """Yields requests with what workers have read. Processes that can't be read are counted; ended ones map nothing."""
@@ -125,13 +112,11 @@ class Reader:
 
     def read_processes(self, processes: Iterable[int]) -> None:
         """Reads what processes map."""
-        with self.timed("walk"):
-            spaces = find_spaces(processes, self._workers, self.unread)
-            self.looked_at = sum(len(space.sharing) for space in spaces)
-            self.spaces = {space.process: space for space in spaces}
-            for done, (request, answer) in enumerate(self.answers(deque(space.request() for space in spaces)), 1):
-                self._add(request.process, answer)
-                self._progress("walking page tables", done, len(spaces))
+        spaces = find_spaces(processes, self._workers, self.unread)
+        self.looked_at = sum(len(space.sharing) for space in spaces)
+        self.spaces = {space.process: space for space in spaces}
+        for request, answer in self.answers(deque(space.request() for space in spaces)):
+            self._add(request.process, answer)
 
     def request_again(self, process: int) -> Request:
         """Returns the request to look again at what a process maps: at all of it where a worker has no room for both."""
@@ -183,14 +168,11 @@ class Reader:
     def read_pages(self, folios: list[Folio]) -> set[int]:
         """Reads control groups of pages, what kernel memory has of them, and map counts that aren't known by that. Returns the
         frames of those that are no longer in use, or whose memory was taken from the machine."""
-        with self.timed("groups"):
-            for folio in folios if len(self._files) > 2 else ():
-                folio.cgroup = sum(self._numbers(2, folio, 1))
-        with self.timed("queues"):
-            gone = self._look(folios)
-        with self.timed("counts"):
-            for folio in folios:
-                folio.totals = folio.totals or compact_counts(self._numbers(1, folio, folio.size))
+        for folio in folios if len(self._files) > 2 else ():
+            folio.cgroup = sum(self._numbers(2, folio, 1))
+        gone = self._look(folios)
+        for folio in folios:
+            folio.totals = folio.totals or compact_counts(self._numbers(1, folio, folio.size))
         return {folio.frame for folio in gone} | {folio.frame for folio in folios if not folio.totals}
 
     def _numbers(self, file: int, folio: Folio, count: int) -> Sequence[int]:
@@ -204,29 +186,15 @@ class Reader:
         """Reads which subpages are zero-filled, by the kernel's own map of memory, in threads: whole, whoever maps the page, and
         it counts as no access. What can't be read isn't `known`."""
 
-        problems: list[Unavailable] = []
-
         def read_some(place: int) -> None:
-            try:
-                for folio in todo:  # each is another thread's, or this one's
-                    zero = self._kernel.zeros(folio.frame, folio.size, place)
-                    folio.zero, folio.known = zero or 0, 0 if zero is None else folio.full
-            except Unavailable as error:
-                problems.append(error)
+            for folio in todo:  # each is another thread's, or this one's
+                zero = self._kernel.zeros(folio.frame, folio.size, place)
+                folio.zero, folio.known = zero or 0, 0 if zero is None else folio.full
 
-        with self.timed("content"):
+        with ThreadPoolExecutor(self._threads) as pool:
             for first in range(0, len(folios), BATCH):
                 todo = iter(folios[first : first + BATCH])
-                threads = [Thread(target=read_some, args=(place,)) for place in range(1, self._threads)]
-                with suppress(RuntimeError):  # as many as the machine allows
-                    for thread in threads:
-                        thread.start()
-                read_some(0)
-                for thread in filter(Thread.is_alive, threads):
-                    thread.join()
-                if problems:
-                    raise problems[0]
-                self._progress("reading content", min(first + BATCH, len(folios)), len(folios))
+                list(pool.map(read_some, range(self._threads)))
 
     def keep_locked(self, folios: Iterable[Folio]) -> None:
         """Finds which subpages of pages locked areas keep."""

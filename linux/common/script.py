@@ -1,32 +1,30 @@
 """A script's settings and commands, as docs/FORMATS.md describes them.
 
-The settings are in the first line, `# thpsplit OPTIONS`, or beside the script in `NAME.args` (a word a line, as in
-examples/), or in words given.
+The settings are in the first line, `# thpsplit OPTIONS`, or in words given.
 """
 
 from __future__ import annotations
 
-import os
 import re
-import stat
-from collections.abc import Callable, Sequence
+from collections.abc import Sequence
 from dataclasses import dataclass
 from pathlib import Path
-from typing import Any
 
-from .arguments import parse_pairs, whole, wholes
+from .arguments import OneLineParser, whole, wholes
 from .errors import InputFault
 from .files import PMD_ORDER, read_input
 from .text import escape, text_lines
 
 MARK = "# thpsplit "
 MOST_NODES, MOST_BLOCKS, MOST_WORKERS, LEAST_ORDER = 8, 4096, 63, 2  # docs/FORMATS.md
-MOST_SETTINGS = 1 << 16  # bytes of NAME.args
-OPTIONS: dict[str, Callable[[str], Any]] = {
-    "nodes": whole(1, MOST_NODES), "blocks": whole(1, MOST_BLOCKS), "workers": whole(1, MOST_WORKERS),
-    "orders": wholes(LEAST_ORDER, PMD_ORDER), "underused": wholes(0, (1 << PMD_ORDER) - 1, "off"), "report": str,
-}
 _SETTINGS = "settings of a script"
+_PARSER = OneLineParser(prog="", add_help=False, allow_abbrev=False)
+_PARSER.add_argument("--nodes", type=whole(1, MOST_NODES), default=1)
+_PARSER.add_argument("--blocks", type=whole(1, MOST_BLOCKS), default=16)
+_PARSER.add_argument("--workers", type=whole(1, MOST_WORKERS), default=1)
+_PARSER.add_argument("--orders", type=wholes(LEAST_ORDER, PMD_ORDER))
+_PARSER.add_argument("--underused", type=wholes(0, (1 << PMD_ORDER) - 1, "off"))
+_PARSER.add_argument("--report")
 _NUMBER = re.compile("[0-9]{1,20}")
 
 
@@ -52,16 +50,19 @@ class Options:
 
 
 def options_of(words: Sequence[str]) -> Options:
-    """Returns the settings in words of a command line; --report has no meaning here. InputFault where they can't be
-    used."""
-    values = parse_pairs(words, OPTIONS, _SETTINGS)
-    nodes = values.get("nodes", 1)
-    orders, underused = values.get("orders", [PMD_ORDER] * nodes), values.get("underused", [None] * nodes)
+    """Returns the settings in words of a command line; --report has no meaning here. InputFault where they can't be used: it quotes
+    none of them, since they may be from a file that isn't its reader's."""
+    try:
+        found = _PARSER.parse_args(words)
+    except InputFault:
+        raise InputFault(f"{_SETTINGS}: they can be{' '.join(_PARSER.format_usage().split())[6:]}") from None
+    nodes = found.nodes
+    orders, underused = found.orders or [PMD_ORDER] * nodes, found.underused or [None] * nodes
     if len(orders) != nodes or len(underused) != nodes:
         raise InputFault(f"{_SETTINGS}: a list is as long as there are nodes")
     if any(switch is not None and switch >= 1 << order for order, switch in zip(orders, underused)):
         raise InputFault(f"{_SETTINGS}: a threshold is less than the subpages of a page")
-    return Options(nodes, values.get("blocks", 16), values.get("workers", 1), tuple(orders), tuple(underused))
+    return Options(nodes, found.blocks, found.workers, tuple(orders), tuple(underused))
 
 
 @dataclass(frozen=True)
@@ -119,31 +120,11 @@ def script_of(name: str, text: str, given: Sequence[str] = ()) -> Script:
     return Script(name, text, options_of([*own, *given]))
 
 
-def _settings_beside(path: str) -> list[str]:
-    """Returns the words of `NAME.args`. InputFault where it is no regular file of the script's owner: a link may refer to a
-    file that only the caller can read."""
-    try:
-        descriptor = os.open(f"{path}.args", os.O_RDONLY | os.O_NOFOLLOW | os.O_NONBLOCK | os.O_NOCTTY | os.O_CLOEXEC)
-        with open(descriptor, "rb") as file:
-            found = os.fstat(descriptor)
-            if not stat.S_ISREG(found.st_mode) or found.st_uid != os.stat(path).st_uid:
-                raise InputFault(f"{escape(path)}.args is no regular file of the script's owner")
-            return file.read(MOST_SETTINGS).decode("ascii", "replace").split()
-    except FileNotFoundError:
-        return []
-    except (OSError, ValueError) as error:
-        reason = getattr(error, "strerror", None) or str(error)
-        raise InputFault(f"{escape(path)}.args can't be read: {reason}") from error
-
-
 def read_script(path: str, given: Sequence[str] = ()) -> Script:
-    """Reads a script from a file, with the settings beside it, or from standard input (`-`). InputFault where it can't be read or
-    isn't ASCII."""
+    """Reads a script from a file, or from standard input (`-`). InputFault where it can't be read or isn't ASCII."""
     try:
         text = read_input(path).decode("ascii")
     except UnicodeDecodeError as error:
         byte = error.object[error.start]
         raise InputFault(f"{escape(path)} is no script: byte {byte:#04x} at offset {error.start} isn't ASCII") from error
-    if path == "-":
-        return script_of("standard-input", text, given)
-    return script_of(Path(path).name, text, [*_settings_beside(path), *given])
+    return script_of("standard-input" if path == "-" else Path(path).name, text, given)

@@ -41,16 +41,15 @@ class SecondLook:
     def take(self) -> Changes:
         """Reads pages again, and has the reader's pages be those of the second reading."""
         reader = self._reader
-        with reader.timed("second look"):
-            self._walk()
-            self._count()
-            changed = [reader.folios[frame] for frame in sorted(self._first) if frame in reader.folios]
-            for folio in changed[MOST_AGAIN:] + [folio for folio in changed[:MOST_AGAIN] if not reconcile(folio)]:
-                self._leave_out(folio, MOVED)
-            reader.read_contents([folio for folio in changed if folio.frame in self._first])
-            sampled = self._sample()
-            pairs = [(before, reader.folios.get(frame)) for frame, before in sorted(self._first.items())]
-            reader.keep_locked([before for before, _ in pairs if before] + list(reader.folios.values()))
+        self._walk()
+        self._count()
+        changed = [reader.folios[frame] for frame in sorted(self._first) if frame in reader.folios]
+        for folio in changed[MOST_AGAIN:] + [folio for folio in changed[:MOST_AGAIN] if not reconcile(folio)]:
+            self._leave_out(folio, MOVED)
+        reader.read_contents([folio for folio in changed if folio.frame in self._first])
+        sampled = self._sample()
+        pairs = [(before, reader.folios.get(frame)) for frame, before in sorted(self._first.items())]
+        reader.keep_locked([before for before, _ in pairs if before] + list(reader.folios.values()))
         return Changes(pairs, len(sampled), sum(frame in self._first for frame in sampled))
 
     def _leave_out(self, folio: Folio, why: str) -> None:
@@ -65,8 +64,8 @@ class SecondLook:
         for request, answer in reader.answers(todo):
             missing.discard(request.process)
             if answer.data != reader.walked[request.process]:
-                self._compare(pieces_of(reader.walked[request.process]), pieces_of(answer.data), request.process)
-        for _, frame, *_ in (piece for process in missing for piece in pieces_of(reader.walked[process])):
+                self._compare([*PIECE.iter_unpack(reader.walked[request.process])], [*PIECE.iter_unpack(answer.data)], request.process)
+        for _, frame, *_ in (piece for process in missing for piece in PIECE.iter_unpack(reader.walked[process])):
             if frame in reader.folios:  # its process can't be read any more
                 self._leave_out(reader.folios[frame], MOVED)
         for frame in [folio.frame for folio in reader.folios.values() if not folio.mappings]:
@@ -127,8 +126,3 @@ def reconcile(folio: Folio) -> bool:
             for mapping in folio.mappings if mapping.subset & counted
         ]
     return bool(folio.mappings)
-
-
-def pieces_of(data: bytes) -> list[Piece]:
-    """Returns pieces (struct piece of pages.c) one by one."""
-    return list(PIECE.iter_unpack(data))

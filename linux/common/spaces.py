@@ -18,7 +18,7 @@ from .proc import ENDED, FLAGS, SIZE, Unreadable, stat_fields
 from .workers import FIND_TABLES, SECONDS, WALK, Request, Workers
 
 KTHREAD = 0x200000  # include/linux/sched.h: PF_KTHREAD, a thread of the kernel
-SECONDS_A_PAGE = 0.1 / (1 << 18)  # that a walk may take longer
+SECONDS_A_PAGE = 1 / (1 << 18)  # that a walk may take longer
 SECONDS_A_PROCESS = 1e-4  # that a search for its page table may take longer
 TRIES = 3  # threads of an address space that end while it is read
 

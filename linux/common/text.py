@@ -21,11 +21,6 @@ def one_line(text: str) -> str:
     return "".join(letter if " " <= letter <= "~" else escape(letter) for letter in text)
 
 
-def lines(data: bytes) -> list[bytes]:
-    """Splits bytes at line feeds alone; a last line feed begins no line."""
-    return data.removesuffix(b"\n").split(b"\n") if data else []
-
-
 def text_lines(text: str) -> list[str]:
     """Splits a text at line feeds alone; a last line feed begins no line."""
     return text.removesuffix("\n").split("\n") if text else []

@@ -3,6 +3,7 @@
 from __future__ import annotations
 
 import ctypes
+import io
 import os
 import signal
 import sys
@@ -32,11 +33,13 @@ def write_nothing_more() -> None:
 
 
 def end_by_signals() -> None:
-    """Has SIGINT, SIGTERM and SIGHUP end the tool as an exception does; one that the caller ignores (nohup) stays ignored."""
+    """Has SIGINT, SIGTERM and SIGHUP end the tool as an exception does; one that the caller ignores (nohup) stays ignored. A child's
+    number stays its own until the tool has waited for it, whatever the caller does with SIGCHLD."""
 
     def stop(number: int, _frame: object) -> NoReturn:
         raise SystemExit(128 + number)
 
+    signal.signal(signal.SIGCHLD, signal.SIG_DFL)
     for number, action in ((signal.SIGINT, signal.default_int_handler), (signal.SIGTERM, stop), (signal.SIGHUP, stop)):
         if signal.getsignal(number) != signal.SIG_IGN:
             signal.signal(number, action)
@@ -52,6 +55,8 @@ def run_tool(name: str, main: Callable[[], int], on_error: int | None = None) ->
         return status if on_error is None or status > 128 else on_error
 
     open_standard_streams()
+    if isinstance(sys.stdout, io.TextIOWrapper):
+        sys.stdout.reconfigure(line_buffering=True)
     if os.geteuid() == 0:  # no core file: it may have read other users' memory
         ctypes.CDLL(None).prctl(PR_SET_DUMPABLE, 0, 0, 0, 0)
     end_by_signals()  # until here SIGINT ends the tool at once

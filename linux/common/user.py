@@ -3,7 +3,6 @@
 from __future__ import annotations
 
 import ctypes
-import glob
 import grp
 import os
 import pwd
@@ -76,29 +75,18 @@ def user_for(name: str | None) -> User:
 
 @lru_cache(maxsize=None)
 def user_without_rights() -> User:
-    """Returns the user of this run's programs: no account and no process has its number, so nobody can signal them. The
-    caller where this tool isn't root. Unavailable where there is no such number."""
+    """Returns the user of this run's programs, so that nobody can signal them: its number is one of many that no system gives to an
+    account. The caller where this tool isn't root. Unavailable where there is no such number."""
     if os.geteuid() != 0:
         return User(os.geteuid(), os.getegid(), [], "", "/")
     maps = [[map(int, line.split()) for line in text_lines(read(f"/proc/self/{kind}_map"))] for kind in ("uid", "gid")]
     high = min(UNUSED.stop, *(max(first + count for first, _, count in each) for each in maps))
     low = max(high - len(UNUSED), high // 2)  # a user namespace may have few numbers
-    used = numbers_of_processes()
     for _ in range(TRIES):
         number = low + int.from_bytes(os.urandom(8), "little") % (high - low)
-        if number not in used and not has_account(number):
+        if not has_account(number):
             return User(number, number, [], "", "/")
     raise Unavailable("no number of a user is unused here")
-
-
-def numbers_of_processes() -> set[int]:
-    """Returns the numbers of users and groups that processes have."""
-    found: set[int] = set()
-    for path in glob.iglob("/proc/[0-9]*/status"):
-        with suppress(OSError):  # it has ended
-            for numbers in re.findall(r"^(?:[UG]id|Groups):(.*)$", read(path), re.MULTILINE):
-                found.update(map(int, numbers.split()))
-    return found
 
 
 def has_account(number: int) -> bool:

@@ -11,6 +11,7 @@ import mmap
 import os
 import select
 import signal
+import socket
 import struct
 import time
 from collections import Counter
@@ -18,13 +19,12 @@ from contextlib import suppress
 from functools import lru_cache
 from typing import Deque, Iterator, NamedTuple
 
-from .files import read_bytes
+from .errors import signals_wait
 from .helpers import helper
 from .kernel_library import TABLES
 from .proc import ROOT
 
-SECONDS = 2.0  # that a worker may wait
-PATIENCE = 5  # how often one that runs may go on: a large process, or a busy machine
+SECONDS = 2.0  # that a worker gets
 LEAST = 0.1  # seconds, for a user who made the tool wait often
 SLOW = 0.1  # seconds after which a reading counts as waiting: another worker then goes on beside it
 MOST_WORKERS = TABLES
@@ -81,33 +81,31 @@ class Worker:
     def __init__(self, flags: int, known: int, most: int, tables: tuple[int, ...], place: int) -> None:
         self._most, self._size, self.place = most, max(most * PIECE.size, LEAST_ROOM), place
         self._memory, at = new_room(self._size + 16 * MOST_SPANS)
-        words = struct.pack("<QQQqqiiQQqq", at, at + self._size, known, most, MOST_SPANS, *tables, place)
-        ends = (ctypes.c_int * 3)()
-        error = load_library().start_worker(words, flags, ends)
-        if error:
-            raise OSError(-error, os.strerror(-error))
-        self.socket, self._handle, self._number = ends
-        self.request, self.limit = Request(0, WALK), 0.0  # seconds
-        self.wake = self.until = self.last = 0.0  # from when on it counts as waiting, when it is killed if it does, when in any case
-        self.is_suspect = False  # another process of this user made the tool wait
+        room = struct.pack("<QQQqqQQqq", at, at + self._size, known, most, MOST_SPANS, *tables[2:], place)
+        library, parent = load_library(), os.getpid()
+        ours, its = socket.socketpair(socket.AF_UNIX, socket.SOCK_SEQPACKET)
+        with signals_wait(), its:
+            number = os.fork()
+            if not number:
+                try:
+                    for standard, descriptor in enumerate((its.fileno(), flags, *tables[:2])):
+                        os.dup2(descriptor, standard)
+                    library.serve(room, parent)
+                finally:
+                    os._exit(0)
+            self._process = os.pidfd_open(number)  # of our child, which nobody else reaps
+        self.socket = ours.detach()
+        self.request = Request(0, WALK)
+        self.wake = self.until = 0.0  # from when on it counts as waiting, and when it is killed
 
     def begin(self, request: Request, with_small: bool, most: int) -> None:
         """Begins a request."""
         count = len(request.data) // UNITS[request.what]
         place = (self._most - count) * PIECE.size if request.what == WALK else 0
         self._memory[place : place + len(request.data)] = request.data
-        self.request, self.until = request, time.monotonic() + self.limit
-        self.last = self.until + PATIENCE * self.limit
+        self.request = request
         with suppress(OSError):  # it was killed: `end` then finds no answer
             os.write(self.socket, REQUEST.pack(request.what, request.thread, request.process, with_small, min(most, self._most), count))
-
-    def may_go_on(self, now: float) -> bool:
-        """Returns whether it runs instead of waiting, after its time is over; gives it more time then."""
-        self.until = min(now + self.limit, self.last)
-        with suppress(OSError):
-            state = read_bytes(f"/proc/{self._number}/stat").rpartition(b")")[2].split()[0]
-            return state == b"R" and now < self.until
-        return False
 
     def end(self) -> Answer | None:
         """Returns the answer; None where the worker was killed."""
@@ -120,18 +118,11 @@ class Worker:
         return answer._replace(data=data, locked=locked)
 
     def kill(self) -> None:
-        """Kills it, without waiting for that."""
+        """Kills it. It waits only for what a signal interrupts, so it ends at once."""
         os.close(self.socket)
-        with suppress(ProcessLookupError):
-            signal.pidfd_send_signal(self._handle, signal.SIGKILL)
-
-    def is_gone(self) -> bool:
-        """Returns whether it was killed and has ended; closes what is left of it then."""
-        with suppress(ChildProcessError):  # where SIGCHLD is ignored, nothing is left of it
-            if not os.waitid(os.P_PIDFD, self._handle, os.WEXITED | os.WNOHANG):
-                return False
-        os.close(self._handle)
-        return True
+        signal.pidfd_send_signal(self._process, signal.SIGKILL)
+        os.waitid(os.P_PIDFD, self._process, os.WEXITED)
+        os.close(self._process)
 
 
 class Workers:
@@ -142,7 +133,6 @@ class Workers:
         self._known, self._poll = new_room(KNOWN), select.poll()
         self._idle: list[Worker] = []
         self._busy: dict[int, Worker] = {}  # by socket
-        self._killed: list[Worker] = []
         self._room = self.most = most  # what a worker has room for, and what may still be kept
         self._limit = MOST_WORKERS
         self._waited: Counter[int] = Counter()  # readings that weren't done in time, by user
@@ -155,8 +145,7 @@ class Workers:
             now = time.monotonic()
             wake = min(each.wake if each.wake > now else each.until for each in self._busy.values())
             ready = [number for number, _ in self._poll.poll(max(0.0, wake - now) * 1000 + 1)]
-            now = time.monotonic()
-            late = [each for number, each in self._busy.items() if each.until < now and number not in ready and not each.may_go_on(now)]
+            late = [each for number, each in self._busy.items() if each.until < time.monotonic() and number not in ready]
             for worker in late + [self._busy[number] for number in ready]:
                 request, answer = worker.request, None if worker in late else worker.end()
                 self._busy.pop(worker.socket)
@@ -173,7 +162,7 @@ class Workers:
         """Begins a request, if a worker is free or may be started beside those that wait."""
         now = time.monotonic()
         if not self._idle:
-            are_reading = sum(each.wake > now and not each.is_suspect for each in self._busy.values())
+            are_reading = sum(each.wake > now for each in self._busy.values())
             if are_reading >= self._count or len(self._busy) >= self._limit:
                 return False
             place = next(iter(set(range(TABLES)) - {each.place for each in self._busy.values()}))
@@ -186,8 +175,7 @@ class Workers:
                 return False
             self._poll.register(self._idle[0].socket, select.POLLIN)
         worker, waited = self._idle.pop(), self._waited[owner_of(request.process)] if self._waited else 0
-        worker.is_suspect, worker.wake = waited > 0, now + SLOW
-        worker.limit = max(LEAST, request.seconds / 2 ** (waited // MOST_WORKERS))
+        worker.wake, worker.until = now + SLOW, now + max(LEAST, request.seconds / 2 ** (waited // MOST_WORKERS))
         worker.begin(request, self._with_small, self.most)
         self._busy[worker.socket] = worker
         return True
@@ -196,17 +184,12 @@ class Workers:
         """Kills a worker; another one is started at need."""
         self._poll.unregister(worker.socket)
         worker.kill()
-        self._killed = [each for each in [*self._killed, worker] if not each.is_gone()]
 
     def close(self) -> None:
         """Kills all workers."""
         for worker in [*self._idle, *self._busy.values()]:
             self._kill(worker)
         self._idle, self._busy = [], {}
-        until = time.monotonic() + LEAST
-        while self._killed and time.monotonic() < until:
-            time.sleep(0.0005)
-            self._killed = [worker for worker in self._killed if not worker.is_gone()]
 
 
 def owner_of(process: int) -> int:

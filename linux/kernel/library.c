@@ -54,83 +54,20 @@ static void end_messages(char *text, size_t size)
 
 /* the running kernel's types */
 
-/* Returns the type of a member of a struct, also of one in it that has no name; 0: there is none. */
-static uint32_t find_member(const struct btf *types, uint32_t id, const char *name)
-{
-	const struct btf_type *type = btf__type_by_id(types, id);
-	uint32_t found = 0;
-
-	for (int i = 0; type && btf_is_composite(type) && i < btf_vlen(type) && !found; i++) {
-		const struct btf_member *member = btf_members(type) + i;
-
-		if (!member->name_off)
-			found = find_member(types, member->type, name);
-		else if (!strcmp(btf__name_by_offset(types, member->name_off), name))
-			found = member->type;
-	}
-	return found;
-}
-
 /*
- * Whether each number and pointer of the programs' types is as large as the running kernel's; if not, a message names it. Structures
- * are found by their fields, arrays by their elements. Types whose names begin with thp_ are our own; those without a name are of maps.
+ * Returns a flag of an allocation by its bit's enumerator, whose enumeration may have no name. Kernels without it have macros, which aren't
+ * among their types: `macro` is the flag's value in include/linux/gfp_types.h of Linux 6.1.
  */
-static bool has_kernel_sizes(const struct btf *own, const struct btf *kernel)
-{
-	for (uint32_t i = 1; i < btf__type_cnt(own); i++) {
-		const struct btf_type *type = btf__type_by_id(own, i);
-		char name[NAMES];
-		int32_t id;
-
-		snprintf(name, sizeof(name), "%s", btf__name_by_offset(own, type->name_off));
-		if (!btf_is_struct(type) || !*name || !strncmp(name, "thp_", 4))
-			continue;
-		if (strstr(name, "___"))
-			*strstr(name, "___") = 0;
-		id = btf__find_by_name_kind(kernel, name, BTF_KIND_STRUCT);
-		for (int j = 0; id >= 0 && j < btf_vlen(type); j++) {
-			const struct btf_member *member = btf_members(type) + j;
-			const char *field = btf__name_by_offset(own, member->name_off);
-			const struct btf_type *kind = btf__type_by_id(own, btf__resolve_type(own, member->type));
-			uint32_t other = find_member(kernel, id, field);
-			long long size = btf__resolve_size(own, member->type), found = btf__resolve_size(kernel, other);
-
-			if (!other || found == size || !(btf_is_int(kind) || btf_is_ptr(kind) || btf_is_any_enum(kind)))
-				continue;
-			fprintf(messages, "struct %s.%s has %lld bytes in this kernel, not %lld\n", name, field, found, size);
-			return false;
-		}
-	}
-	return true;
-}
-
-/* Returns the value of an enumerator, also of an enumeration without a name; -1: there is none. */
-static int64_t find_enumerator(const struct btf *types, const char *name)
+static uint32_t find_flag(const struct btf *types, const char *name, uint32_t macro)
 {
 	for (uint32_t id = 1; id < btf__type_cnt(types); id++) {
 		const struct btf_type *type = btf__type_by_id(types, id);
 
 		for (int i = 0; btf_is_enum(type) && i < btf_vlen(type); i++)
 			if (!strcmp(btf__name_by_offset(types, btf_enum(type)[i].name_off), name))
-				return btf_enum(type)[i].val;
+				return 1u << btf_enum(type)[i].val;
 	}
-	return -1;
-}
-
-/*
- * Returns a flag of an allocation by its enumerator; 0: there is none, and a message says so. Kernels without the enumeration have
- * macros, which aren't among their types: `macro` is the flag's value in include/linux/gfp_types.h of Linux 6.1.
- */
-static uint32_t find_flag(const struct btf *types, const char *name, uint32_t macro)
-{
-	int64_t bit = find_enumerator(types, name);
-
-	if (bit >= 0)
-		return 1u << bit;
-	if (find_enumerator(types, "___GFP_DMA_BIT") < 0)
-		return macro;
-	fprintf(messages, "this kernel has no enumerator %s\n", name);
-	return 0;
+	return macro;
 }
 
 /* Returns how many arguments a tracepoint has; -1: there is none. include/trace/bpf_probe.h: typedef btf_trace_NAME, a pointer to a
@@ -155,19 +92,10 @@ static int count_arguments(const struct btf *types, const char *tracepoint)
 struct memory_bpf *thp_memory_open(char *problem, size_t size)
 {
 	struct memory_bpf *programs;
-	struct btf *kernel;
-	bool fits;
 
 	if (!begin_messages())
 		return NULL;
-	kernel = btf__load_vmlinux_btf();
-	programs = kernel ? memory_bpf__open() : NULL;
-	fits = programs && has_kernel_sizes(bpf_object__btf(programs->obj), kernel);
-	btf__free(kernel);	/* several MiB, and loading has a copy of its own */
-	if (!fits || memory_bpf__load(programs)) {
-		memory_bpf__destroy(programs);
-		programs = NULL;
-	}
+	programs = memory_bpf__open_and_load();
 	end_messages(problem, size);
 	return programs;
 }
@@ -227,15 +155,17 @@ static int take_one(void *context, void *data, size_t size)
 	return 0;
 }
 
-/* Leaves out the program of a tracepoint that this kernel lacks, or has with another number of arguments, and reports it. */
-static void leave_out(const struct btf *kernel, struct bpf_program *program, int least, int most, const char *what)
+/* Leaves out the programs of a tracepoint that this kernel lacks, or has with another number of arguments, and reports it. */
+static void leave_out(const struct btf *kernel, const struct bpf_object *object, const char *name, int least, int most, const char *what)
 {
-	const char *name = strchr(bpf_program__section_name(program), '/') + 1;
 	int found = count_arguments(kernel, name);
+	struct bpf_program *program;
 
 	if (found >= least && found <= most)
 		return;
-	bpf_program__set_autoload(program, false);
+	bpf_object__for_each_program(program, object)
+		if (!strcmp(strchr(bpf_program__section_name(program), '/') + 1, name))
+			bpf_program__set_autoload(program, false);
 	fprintf(messages, "%s aren't followed: this kernel's tracepoint %s %s\n", what, name,
 		    found < 0 ? "isn't there" : "has other arguments");
 }
@@ -243,20 +173,14 @@ static void leave_out(const struct btf *kernel, struct bpf_program *program, int
 /* Sets what the programs are loaded with. */
 static bool configure(struct record_bpf *programs, const struct thp_settings *settings, const struct btf *kernel)
 {
-	uint32_t nomemalloc = find_flag(kernel, "___GFP_NOMEMALLOC_BIT", 0x80000);
-	uint32_t movable = find_flag(kernel, "___GFP_MOVABLE_BIT", 0x08);
-
-	if (!nomemalloc || !movable)
-		return false;
 	memcpy((void *)&programs->rodata->settings, settings, sizeof(*settings));
-	programs->rodata->nomemalloc = nomemalloc;
-	programs->rodata->movable = movable;
+	programs->rodata->nomemalloc = find_flag(kernel, "___GFP_NOMEMALLOC_BIT", 0x80000);
+	programs->rodata->movable = find_flag(kernel, "___GFP_MOVABLE_BIT", 0x08);
 	programs->rodata->has_collapse_order = count_arguments(kernel, "mm_collapse_huge_page") > 3;
-	leave_out(kernel, programs->progs.on_collapse, 3, 4, "collapses");
-	leave_out(kernel, programs->progs.on_moved_pmd, 2, 2, "migrations");
-	leave_out(kernel, programs->progs.on_moved_pte, 3, 3, "migrations");
-	return !bpf_map__set_max_entries(programs->maps.ring, settings->room) &&
-	       has_kernel_sizes(bpf_object__btf(programs->obj), kernel);
+	leave_out(kernel, programs->obj, "mm_collapse_huge_page", 3, 4, "collapses");
+	leave_out(kernel, programs->obj, "remove_migration_pmd", 2, 2, "migrations");
+	leave_out(kernel, programs->obj, "remove_migration_pte", 3, 3, "migrations");
+	return !bpf_map__set_max_entries(programs->maps.ring, settings->room);
 }
 
 /* Begins a recording; NULL where it can't begin. */
@@ -303,23 +227,7 @@ int thp_record_take(struct recorder *recorder, int file, size_t room, long *coun
 	return taken < 0 ? taken : 0;
 }
 
-/* Of programs in pairs a run is missed if both were left out. */
 void thp_record_counters(const struct recorder *recorder, struct thp_counters *counters)
 {
-	const struct record_bpf *programs = recorder->programs;
-	uint64_t missed = 0, caught = programs->bss->caught;
-	struct bpf_program *program;
-
-	*counters = programs->bss->counters;
-	bpf_object__for_each_program(program, programs->obj) {
-		struct bpf_prog_info info = {};
-		uint32_t size = sizeof(info);
-		int descriptor = bpf_program__fd(program);
-
-		if (strstr(bpf_program__name(program), "_again") || descriptor < 0)
-			continue;
-		if (!bpf_obj_get_info_by_fd(descriptor, &info, &size))
-			missed += info.recursion_misses;
-	}
-	counters->missed = caught < missed ? missed - caught : 0;
+	*counters = recorder->programs->bss->counters;
 }

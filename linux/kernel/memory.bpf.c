@@ -31,9 +31,10 @@ enum { FLAGS = 7 };			/* low bits of memcg_data (include/linux/memcontrol.h) */
 
 static __always_inline struct file *file_of(__u64 descriptor)
 {
-	struct fdtable *table = READ(&bpf_get_current_task_btf()->files->fdt);
+	struct files_struct *files = bpf_get_current_task_btf()->files;
+	struct fdtable *table = READ(files->fdt);
 
-	return READ(READ(&table->fd) + descriptor);
+	return (void *)read_pointer((__u64)(READ(table->fd) + descriptor));
 }
 
 static __always_inline struct cgroup_subsys_state *own_group(void)
@@ -58,11 +59,13 @@ int describe_kernel(struct thp_request *request)
 SEC("syscall")
 int find_group(struct thp_request *request)
 {
-	struct kernfs_node *node = READ(&READ(&file_of(request->at)->f_inode)->i_private);
-	struct cgroup *group = READ(&node->priv);
+	struct file *file = file_of(request->at);
+	struct inode *inode = READ(file->f_inode);
+	struct kernfs_node *node = READ(inode->i_private);
+	struct cgroup *group = READ(node->priv);
 	__u64 memory = bpf_core_enum_value(enum cgroup_subsys_id, memory_cgrp_id);
 
-	request->group = (__u64)READ((void **)((__u64)&group->subsys + sizeof(void *) * memory));
+	request->group = read_pointer((__u64)&group->subsys + sizeof(void *) * memory);
 	return request->group ? FINE : UNREADABLE;
 }
 
@@ -75,14 +78,14 @@ static long step(__u32 index, struct thp_walk *walk)
 	if (walk->at == walk->head || !walk->at)
 		return 1;
 	window.folios[index % WINDOW] = walk->at - link_offset();
-	walk->at = (__u64)READ(&((struct list_head *)walk->at)->next);
+	walk->at = (__u64)READ(((struct list_head *)walk->at)->next);
 	walk->count = index + 1;
 	return 0;
 }
 
 static __always_inline enum answer walk_queue(struct thp_request *run)
 {
-	bool is_root = !READ(&((struct mem_cgroup *)run->group)->css.parent);
+	bool is_root = !READ(((struct mem_cgroup *)run->group)->css.parent);
 	struct thp_walk walk = {};
 
 	if (!has_group_queue()) {
@@ -90,13 +93,13 @@ static __always_inline enum answer walk_queue(struct thp_request *run)
 
 		if (!lru)
 			return NO_QUEUE;
-		if (!is_root && (READ(&((struct mem_cgroup *)run->group)->kmemcg_id) < 0 || !READ(&lru->memcg_aware)))
+		if (!is_root && (READ(((struct mem_cgroup *)run->group)->kmemcg_id) < 0 || !READ(lru->memcg_aware)))
 			return NO_NUMBER;
 	}
 	walk.head = find_queue(window.queue_lists, run->group, is_root, run->numa_node, &run->length);
 	if (!walk.head)
 		return FINE;
-	walk.at = run->at ?: (__u64)READ(&((struct list_head *)walk.head)->next);
+	walk.at = run->at ?: (__u64)READ(((struct list_head *)walk.head)->next);
 	bpf_loop(WINDOW, step, &walk, 0);
 	run->found = walk.count;
 	run->at = walk.at == walk.head ? 0 : walk.at;
@@ -121,19 +124,23 @@ int read_queue(struct thp_request *request)
 SEC("syscall")
 int find_page(struct thp_request *request)
 {
-	request->at = (__u64)READ(&READ(&file_of(request->at)->f_mapping)->i_pages.xa_head);
+	struct file *file = file_of(request->at);
+	struct address_space *mapping = READ(file->f_mapping);
+
+	request->at = (__u64)READ(mapping->i_pages.xa_head);
 	return request->at ? FINE : UNREADABLE;
 }
 
 /* The group that a page is charged to; Linux 7 charges it to an obj_cgroup, which names the group. */
 static __always_inline __u64 group_of(struct folio *folio)
 {
-	__u64 charged = READ(&folio->memcg_data) & ~(__u64)FLAGS;
-	struct cgroup_subsys *memory = READ(&own_group()->ss);
+	__u64 charged = READ(folio->memcg_data) & ~(__u64)FLAGS;
+	struct cgroup_subsys_state *own = own_group();
+	struct cgroup_subsys *memory = READ(own->ss);
 
-	if (charged && READ(&((struct mem_cgroup *)charged)->css.ss) != memory)
-		charged = (__u64)READ(&((struct obj_cgroup *)charged)->memcg);
-	return charged && READ(&((struct mem_cgroup *)charged)->css.ss) == memory ? charged : 0;
+	if (charged && READ(((struct mem_cgroup *)charged)->css.ss) != memory)
+		charged = (__u64)READ(((struct obj_cgroup *)charged)->memcg);
+	return charged && READ(((struct mem_cgroup *)charged)->css.ss) == memory ? charged : 0;
 }
 
 static long look_at(__u32 index, void *unused)
@@ -148,10 +155,10 @@ static long look_at(__u32 index, void *unused)
 	folio = (void *)(window.first_page + state->frame * bpf_core_type_size(struct page));
 	state->has_failed = bpf_probe_read_kernel(&next, sizeof(next), &folio->_deferred_list.next) != 0;
 	state->is_linked = next != &folio->_deferred_list;
-	state->is_partly = READ(&folio->_flags_1) >> bpf_core_enum_value(enum pageflags___6_12, PG_partially_mapped) & 1;
-	state->references = READ(&folio->_refcount.counter);
-	state->large = READ(&folio->_large_mapcount.counter);
-	state->entire = READ(&folio->_entire_mapcount.counter);
+	state->is_partly = READ(folio->_flags_1) >> bpf_core_enum_value(enum pageflags___6_12, PG_partially_mapped) & 1;
+	state->references = READ(folio->_refcount.counter);
+	state->large = READ(folio->_large_mapcount.counter);
+	state->entire = READ(folio->_entire_mapcount.counter);
 	state->group = group_of(folio);
 	return 0;
 }
@@ -212,8 +219,9 @@ SEC("syscall")
 int find_map(struct thp_request *request)
 {
 	struct thp_search search = { .address = request->group, .content = request->numa_node };
+	struct mm_struct *mm = bpf_get_current_task_btf()->mm;
 
-	search.table = (__u64)READ(&bpf_get_current_task_btf()->mm->pgd);
+	search.table = (__u64)READ(mm->pgd);
 	search.base = search.table & -(__u64)GIB;
 	bpf_loop(FARTHEST, try_base, &search, 0);
 	request->at = search.base;
@@ -226,15 +234,17 @@ int find_map(struct thp_request *request)
 SEC("syscall")
 int find_tables(struct thp_request *request)
 {
-	void *state = READ(&((struct seq_file *)READ(&file_of(request->at)->private_data))->private);
+	struct file *file = file_of(request->at);
+	struct seq_file *sequence = READ(file->private_data);
+	void *state = READ(sequence->private);
 	struct mm_struct *mm;
 
 	if (bpf_core_field_exists(struct proc_maps_private, mm))
-		mm = READ(&((struct proc_maps_private *)state)->mm);
+		mm = READ(((struct proc_maps_private *)state)->mm);
 	else
-		mm = READ(&((struct proc_maps_private___locking *)state)->lock_ctx.mm);
-	request->at = mm ? (__u64)READ(&mm->pgd) : 0;
-	request->length = READ(&mm->locked_vm);
+		mm = READ(((struct proc_maps_private___locking *)state)->lock_ctx.mm);
+	request->at = mm ? (__u64)READ(mm->pgd) : 0;
+	request->length = READ(mm->locked_vm);
 	return request->at ? FINE : UNREADABLE;
 }
 

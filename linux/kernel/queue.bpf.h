@@ -3,12 +3,26 @@
 #ifndef QUEUE_BPF_H
 #define QUEUE_BPF_H
 
-/* Reads one value of kernel memory; 0 where it can't be read: the helper clears it. */
-#define READ(at) ({							\
-	__typeof__(*(at)) value_;					\
-	bpf_probe_read_kernel((void *)&value_, sizeof(value_), (at));	\
-	value_;								\
+/*
+ * Reads a field of kernel memory, which may be smaller in the running kernel; 0 where it can't be read: the helper clears it. Where it
+ * is larger, the verifier finds a call of no function, 57005 (linux/common/kernel_library.py), and refuses the programs.
+ */
+#define READ(field) ({									\
+	__typeof__(field) value_ = 0;							\
+	__u64 size_ = bpf_core_field_size(field);					\
+	if (size_ > sizeof(value_))							\
+		asm volatile("call 57005" ::: "r0", "r1", "r2", "r3", "r4", "r5");	\
+	bpf_probe_read_kernel((void *)&value_, size_, &(field));			\
+	value_;										\
 })
+
+static __always_inline __u64 read_pointer(__u64 at)
+{
+	__u64 found;
+
+	bpf_probe_read_kernel(&found, sizeof(found), (void *)at);
+	return found;
+}
 
 enum { LEVELS = 8 };	/* of an xarray whose indices have 31 bits, and whose nodes have at least 16 slots */
 
@@ -33,18 +47,18 @@ static __always_inline bool is_node(__u64 entry)
 /* lib/xarray.c: xa_load */
 static __always_inline __u64 load_entry(struct xarray *array, __u64 index)
 {
-	__u64 entry = (__u64)READ(&array->xa_head);
+	__u64 entry = (__u64)READ(array->xa_head);
 	__u64 slots = bpf_core_field_size(struct xa_node, slots) / sizeof(void *);
 
 	if (!is_node(entry))
 		return index || entry & 3 ? 0 : entry;
 	for (int level = 0; level < LEVELS && is_node(entry); level++) {
 		struct xa_node *node = (void *)(entry - 2);
-		__u64 place = index >> (READ(&node->shift) & 63);
+		__u64 place = index >> (READ(node->shift) & 63);
 
 		if (level == 0 && place >= slots)
 			return 0;
-		entry = (__u64)READ((void **)((__u64)&node->slots + sizeof(void *) * (place & (slots - 1))));
+		entry = read_pointer((__u64)&node->slots + sizeof(void *) * (place & (slots - 1)));
 	}
 	return entry & 3 ? 0 : entry;
 }
@@ -56,9 +70,9 @@ static __always_inline __u64 find_list(__u64 lists, __u64 group, bool is_root, _
 	__u64 found;
 
 	if (is_root)
-		return (__u64)READ(&lru->node) + numa_node * bpf_core_type_size(struct list_lru_node) +
+		return (__u64)READ(lru->node) + numa_node * bpf_core_type_size(struct list_lru_node) +
 		       bpf_core_field_offset(struct list_lru_node, lru);
-	found = load_entry(&lru->xa, READ(&((struct mem_cgroup *)group)->kmemcg_id));
+	found = load_entry(&lru->xa, READ(((struct mem_cgroup *)group)->kmemcg_id));
 	if (!found)
 		return 0;
 	return found + bpf_core_field_offset(struct list_lru_memcg, node) +
@@ -77,14 +91,14 @@ static __always_inline __u64 find_queue(__u64 lists, __u64 group, bool is_root, 
 		struct deferred_split *queue = &((struct mem_cgroup___queue *)group)->deferred_split_queue;
 
 		if (length)
-			*length = READ(&queue->split_queue_len);
+			*length = READ(queue->split_queue_len);
 		return (__u64)&queue->split_queue;
 	}
 	list = (void *)find_list(lists, group, is_root, numa_node);
 	if (!list)
 		return 0;
 	if (length)
-		*length = READ(&list->nr_items);
+		*length = READ(list->nr_items);
 	return (__u64)&list->list;
 }
 #endif

@@ -40,13 +40,13 @@ static __always_inline bool matters(long number, struct pt_regs *regs, struct ta
 	__u64 start = regs->di, length = regs->si;
 
 	if (!space)
-		return counters.unfiltered;
+		return false;
 	if (space->all || number == MREMAP || number == BRK)
 		return true;
 	return length && may_have(space, start >> (BASE_BITS + PMD_ORDER), (start + length - 1) >> (BASE_BITS + PMD_ORDER));
 }
 
-static __always_inline int begin_call(struct pt_regs *regs, long number)
+static __always_inline int begin_call(int copy, struct pt_regs *regs, long number)
 {
 	struct task_struct *task;
 	struct thp_space *space;
@@ -56,9 +56,12 @@ static __always_inline int begin_call(struct pt_regs *regs, long number)
 		return 0;
 	task = bpf_get_current_task_btf();
 	state = own_state(task);
-	if (!state)
+	if (!state || (copy && state->has_entered))
 		return 0;
-	state->address = 0;
+	if (state->has_entered)
+		__sync_fetch_and_add(&counters.missed, 1);	/* the end of its last call */
+	state->address = state->last = 0;
+	state->has_left = false;
 	if (!state->is_next && !matters(number, regs, task))
 		return 0;
 	state->is_next = false;
@@ -73,7 +76,7 @@ static __always_inline int begin_call(struct pt_regs *regs, long number)
  * sys_enter: the begin of a call that may change mappings (ENTER). Forgets the task's last fault, to which a call's allocations
  * don't belong. tp_btf: reads registers and the task.
  */
-PAIR("tp_btf/sys_enter", on_enter, AT_ENTER, begin_call(regs, number), struct pt_regs *regs, long number)
+IN_COPIES("tp_btf/sys_enter", on_enter, begin_call(copy, regs, number), struct pt_regs *regs, long number)
 
 /* The folio that is known at an address, and in `home` its place; 0: none. */
 static __always_inline __u64 find_home(struct thp_home *home, __u64 address)
@@ -96,9 +99,9 @@ static __always_inline bool is_head(struct folio *folio)
 	__u64 flags;
 
 	if (bpf_core_field_exists(struct folio___memdesc, flags.f))
-		flags = READ(&((struct folio___memdesc *)folio)->flags.f);
+		flags = READ(((struct folio___memdesc *)folio)->flags.f);
 	else
-		flags = READ(&((struct folio___number *)folio)->flags);
+		flags = READ(((struct folio___number *)folio)->flags);
 	return flags >> bpf_core_enum_value(enum pageflags, PG_head) & 1;
 }
 
@@ -120,9 +123,9 @@ static __always_inline void add_counts(struct thp_record *record, long result)
 	order = home.block & 15;
 	folio = (void *)found;
 	record->values[5] = found;
-	record->values[6] = (__u32)READ(&folio->_large_mapcount.counter);
-	record->values[7] = (__u32)READ(&folio->_entire_mapcount.counter);
-	record->values[8] = (__u32)READ(&folio->_nr_pages_mapped.counter);
+	record->values[6] = (__u32)READ(folio->_large_mapcount.counter);
+	record->values[7] = (__u32)READ(folio->_entire_mapcount.counter);
+	record->values[8] = (__u32)READ(folio->_nr_pages_mapped.counter);
 	if (!is_head(folio))
 		record->values[8] |= 1ull << 32;	/* it is split: these are no counts */
 	if (record->values[0] != MREMAP || (unsigned long)result >= (unsigned long)-ERRORS)
@@ -133,10 +136,10 @@ static __always_inline void add_counts(struct thp_record *record, long result)
 	bpf_map_update_elem(&homes, &home, &found, BPF_ANY);
 }
 
-static __always_inline int end_call(struct pt_regs *regs, long result)
+static __always_inline int end_call(int copy, struct pt_regs *regs, long result)
 {
 	long number = regs->orig_ax;
-	__u32 kind = EXIT;
+	__u32 slot = OF_CALL + copy;
 	struct thp_record *record;
 	struct task_struct *task;
 	struct thp_task *state;
@@ -145,7 +148,7 @@ static __always_inline int end_call(struct pt_regs *regs, long result)
 		return 0;
 	task = bpf_get_current_task_btf();
 	state = own_state(task);
-	if (!state)
+	if (!state || (copy && state->has_left))
 		return 0;
 	if (!state->has_entered) {
 		if (!matters(number, regs, task))
@@ -153,10 +156,11 @@ static __always_inline int end_call(struct pt_regs *regs, long result)
 		send(ENTER, task, VALUES(number, regs->di, regs->si, regs->dx, task->mm->brk));
 	}
 	state->has_entered = false;
-	record = bpf_map_lookup_elem(&scratch, &kind);
+	state->has_left = true;
+	record = bpf_map_lookup_elem(&scratch, &slot);
 	if (!record)
 		return 0;
-	fill(record, kind, task, VALUES(number, regs->di, regs->si, regs->dx, result));
+	fill(record, EXIT, task, VALUES(number, regs->di, regs->si, regs->dx, result));
 	add_counts(record, result);
 	return add_queue(record);
 }
@@ -165,7 +169,7 @@ static __always_inline int end_call(struct pt_regs *regs, long result)
  * sys_exit: the end of such a call, with map counts and the queue (EXIT). A call that reached no page at its begin may reach one
  * at its end: then both are sent. tp_btf: reads registers and the task.
  */
-PAIR("tp_btf/sys_exit", on_exit, AT_EXIT, end_call(regs, result), struct pt_regs *regs, long result)
+IN_COPIES("tp_btf/sys_exit", on_exit, end_call(copy, regs, result), struct pt_regs *regs, long result)
 
 /* faults, allocations, frees */
 
@@ -179,6 +183,7 @@ static __always_inline int on_fault(unsigned long address, unsigned long code)
 		return 0;
 	state->address = address;
 	state->code = code;
+	state->last = 0;
 	if (!state->is_next)
 		return 0;
 	state->is_next = false;
@@ -186,12 +191,12 @@ static __always_inline int on_fault(unsigned long address, unsigned long code)
 }
 
 /* page_fault_user: a fault of a task, where something waits for it (FAULT). tp_btf: reads the task. */
-PAIR("tp_btf/page_fault_user", on_user_fault, AT_USER_FAULT, on_fault(address, code),
-     unsigned long address, struct pt_regs *regs, unsigned long code)
+IN_COPIES("tp_btf/page_fault_user", on_user_fault, on_fault(address, code),
+	  unsigned long address, struct pt_regs *regs, unsigned long code)
 
 /* page_fault_kernel: the same for a fault in a call, as of copy_from_user. */
-PAIR("tp_btf/page_fault_kernel", on_kernel_fault, AT_KERNEL_FAULT, on_fault(address, code),
-     unsigned long address, struct pt_regs *regs, unsigned long code)
+IN_COPIES("tp_btf/page_fault_kernel", on_kernel_fault, on_fault(address, code),
+	  unsigned long address, struct pt_regs *regs, unsigned long code)
 
 /* The first struct page of the block of 2 MiB that a page is in. */
 static __always_inline __u64 block_of(__u64 page)
@@ -199,13 +204,18 @@ static __always_inline __u64 block_of(__u64 page)
 	return page & -(LARGE * (__u64)bpf_core_type_size(struct page));
 }
 
-/* Frees in the block of a page are recorded from now on, one of each frame. */
-static __always_inline void track(__u64 page)
+/* Frees in the block of a page are recorded from now on, one of each frame; those of other pages in it that were recorded stay so. */
+static __always_inline void track(__u64 page, __u32 order)
 {
-	__u64 block = block_of(page);
-	struct thp_seen seen = {};
+	__u64 block = block_of(page), first = (page - block) / bpf_core_type_size(struct page) % LARGE;
+	struct thp_seen *seen = bpf_map_lookup_elem(&tracked, &block), none = {};
+	__u64 bits = order < 6 ? ((1ull << (1 << order)) - 1) << first % 64 : ~0ull;
 
-	bpf_map_update_elem(&tracked, &block, &seen, BPF_ANY);
+	if (!seen && bpf_map_update_elem(&tracked, &block, &none, BPF_ANY))
+		lose();
+	for (__u64 i = 0; seen && i < LARGE / 64; i++)
+		if (i == first / 64 || (i > first / 64 && i < (first + (1 << order)) / 64))
+			__sync_fetch_and_and(&seen->bits[i], ~bits);
 }
 
 /* Counts a page that is allocated in a group below the recorded one. */
@@ -214,7 +224,7 @@ static __always_inline int count_inner(struct task_struct *task)
 	struct cgroup_subsys_state *css = (void *)group_of(task);
 
 	for (int i = 0; i < INNER_LEVELS && css; i++) {
-		css = READ(&css->parent);
+		css = READ(css->parent);
 		if ((__u64)css == settings.group)
 			__sync_fetch_and_add(&counters.inner_pages, 1);
 	}
@@ -222,7 +232,7 @@ static __always_inline int count_inner(struct task_struct *task)
 }
 
 /* A base page for a fault that writes where a page is present, perhaps one of ours. */
-static __always_inline int on_base_page(__u64 page, __u32 flags)
+static __always_inline int on_base_page(int copy, __u64 page, __u32 flags)
 {
 	struct task_struct *task = bpf_get_current_task_btf();
 	struct thp_space *space;
@@ -234,15 +244,18 @@ static __always_inline int on_base_page(__u64 page, __u32 flags)
 	state = bpf_task_storage_get(&tasks, task, 0, 0);
 	if (!state || !state->address || (state->code & WRITTEN) != WRITTEN || !is_own(task))
 		return 0;
+	if (copy && state->last == page)
+		return 0;
 	space = space_of((__u64)task->mm);
 	block = state->address >> (BASE_BITS + PMD_ORDER);
-	if (space ? !space->all && !may_have(space, block, block) : !counters.unfiltered)
+	if (!space || !(space->all || may_have(space, block, block)))
 		return 0;
+	state->last = page;
 	state->is_next = true;
 	return send(COPY, task, VALUES(page, IN_FAULT, state->address, state->code));
 }
 
-static __always_inline int note_alloc(__u64 folio, unsigned int order, __u32 flags)
+static __always_inline int note_alloc(int copy, __u64 folio, unsigned int order, __u32 flags)
 {
 	struct task_struct *task;
 	struct thp_task *state;
@@ -251,20 +264,22 @@ static __always_inline int note_alloc(__u64 folio, unsigned int order, __u32 fla
 	if (!folio || order == 1)
 		return 0;
 	if (!order)
-		return on_base_page(folio, flags);
+		return on_base_page(copy, folio, flags);
 	if (~flags & (nomemalloc | movable))
 		return 0;
 	task = bpf_get_current_task_btf();
 	mm = (__u64)task->mm;
 	if (mm && group_of(task) != settings.group)
-		return count_inner(task);
+		return copy ? 0 : count_inner(task);
 	if (!mm && order != PMD_ORDER)
 		return 0;
-	track(folio);
 	state = state_of(task);
+	if (copy && state && state->last == folio)
+		return 0;
+	track(folio, order & 15);
 	if (!state)
 		return 0;
-	state->fresh = folio;
+	state->fresh = state->last = folio;
 	state->is_next = true;
 	if (state->address) {
 		struct thp_home home = { mm, state->address >> (BASE_BITS + (order & 15)) << 4 | order };
@@ -280,12 +295,12 @@ static __always_inline int note_alloc(__u64 folio, unsigned int order, __u32 fla
  * be copies (COPY). Huge pages have __GFP_NOMEMALLOC, and all except the huge zero page are movable. raw_tp: it computes with
  * the address of the page.
  */
-PAIR("raw_tp/mm_page_alloc", on_alloc, AT_ALLOC, note_alloc((__u64)page, order, flags),
-     struct page *page, unsigned int order, __u32 flags)
+IN_COPIES("raw_tp/mm_page_alloc", on_alloc, note_alloc(copy, (__u64)page, order, flags),
+	  struct page *page, unsigned int order, __u32 flags)
 
 /*
  * Sends the free of a page in a block where a huge page of ours was made. A frame that is freed again was another's meanwhile, and
- * so is a block once it was freed whole. For the same free a second call sends nothing.
+ * so is a block once it was freed whole.
  */
 static __always_inline int send_free(__u64 page, unsigned int order)
 {
@@ -299,37 +314,19 @@ static __always_inline int send_free(__u64 page, unsigned int order)
 		bit = 1ull << place % 64;
 		if (__sync_fetch_and_or(&seen->bits[place / 64], bit) & bit)
 			return 0;
-	} else {
-		bpf_map_delete_elem(&tracked, &block);
+	} else if (bpf_map_delete_elem(&tracked, &block)) {
+		return 0;
 	}
 	return send(FREE, bpf_get_current_task_btf(), VALUES(page, order));
 }
 
 /* mm_page_free: pages in blocks where a huge page of ours was made, by whomever they are freed (FREE). raw_tp: it computes with
  * the address of the page. */
-SEC("raw_tp/mm_page_free")
-int BPF_PROG(on_free, struct page *page, unsigned int order)
-{
-	send_free((__u64)page, order);
-	return end_first(AT_FREE);
-}
-
-/* Interrupts free pages often, as at the end of a transfer from or to a device: this one doesn't rely on which run was left out. */
-SEC("raw_tp/mm_page_free")
-int BPF_PROG(on_free_again, struct page *page, unsigned int order)
-{
-	was_left_out(AT_FREE);
-	return send_free((__u64)page, order);
-}
+IN_COPIES("raw_tp/mm_page_free", on_free, send_free((__u64)page, order), struct page *page, unsigned int order)
 
 /* collapses and migrations */
 
-/*
- * mm_collapse_huge_page: a collapse in an address space of the group, by whomever, with the queue (COLLAPSED;
- * mm/khugepaged.c: collapse_huge_page). tp_btf: reads the owner of the address space, which Linux 7 may have none of.
- */
-SEC("tp_btf/mm_collapse_huge_page")
-int BPF_PROG(on_collapse, struct mm_struct *mm, int isolated, int status)
+static __always_inline int note_collapse(int copy, struct mm_struct *mm, int status, __u64 order)
 {
 	struct task_struct *task = bpf_get_current_task_btf(), *owner = mm->owner;
 	struct thp_home home = { .space = (__u64)mm };
@@ -338,7 +335,7 @@ int BPF_PROG(on_collapse, struct mm_struct *mm, int isolated, int status)
 
 	if (!owner || status != (int)bpf_core_enum_value(enum scan_result, SCAN_SUCCEED))
 		return 0;
-	if (has_collapse_order && ctx[3] != PMD_ORDER)
+	if (has_collapse_order && order != PMD_ORDER)
 		return 0;
 	if (group_of(owner) != settings.group)
 		return 0;
@@ -346,76 +343,84 @@ int BPF_PROG(on_collapse, struct mm_struct *mm, int isolated, int status)
 	if (!state || !state->fresh)
 		return 0;
 	folio = state->fresh;
-	index = READ(&((struct folio *)folio)->index);
+	state->fresh = 0;
+	index = READ(((struct folio *)folio)->index);
 	home.block = index >> PMD_ORDER << 4 | PMD_ORDER;
 	bpf_map_update_elem(&homes, &home, &folio, BPF_ANY);
 	add_page(home.space, index << BASE_BITS);
-	return send_with_queue(COLLAPSED, task, VALUES(home.space, status, folio, index));
+	return send_with_queue(OF_COLLAPSE + copy, COLLAPSED, task, VALUES(home.space, status, folio, index));
 }
 
+/*
+ * mm_collapse_huge_page: a collapse in an address space of the group, by whomever, with the queue (COLLAPSED;
+ * mm/khugepaged.c: collapse_huge_page). tp_btf: reads the owner of the address space, which Linux 7 may have none of.
+ */
+IN_COPIES("tp_btf/mm_collapse_huge_page", on_collapse, note_collapse(copy, mm, status, has_collapse_order ? ctx[3] : 0),
+	  struct mm_struct *mm, int isolated, int status)
+
 /* A mapping of a page of the group exists again, where a migration entry was. The page is known by its frame. */
-static __always_inline int on_moved(unsigned long address, unsigned long entry, __u32 order)
+static __always_inline int on_moved(int copy, unsigned long address, unsigned long entry, __u32 order)
 {
+	struct task_struct *task = bpf_get_current_task_btf();
+	struct thp_task *state;
 	__u64 frame = entry << (64 - FRAME_END) >> (64 - FRAME_END + BASE_BITS);
 	__u64 page = settings.first_page + frame * bpf_core_type_size(struct page);
-	__u64 charged = READ(&((struct folio *)page)->memcg_data) & CHARGED_TO;
+	__u64 charged = READ(((struct folio *)page)->memcg_data) & CHARGED_TO;
 
-	if (charged != settings.group && (__u64)READ(&((struct obj_cgroup *)charged)->memcg) != settings.group)
+	if (charged != settings.group && (__u64)READ(((struct obj_cgroup *)charged)->memcg) != settings.group)
 		return 0;	/* Linux 7 charges it to an obj_cgroup */
-	track(page);
-	return send(MOVED, bpf_get_current_task_btf(), VALUES(address, page, order));
+	state = state_of(task);
+	if (!state || (copy && state->last == address))
+		return 0;
+	state->last = address;
+	track(page, order);
+	return send(MOVED, task, VALUES(address, page, order));
 }
 
 /* remove_migration_pmd: a migration, or a split that failed, maps a page again (MOVED). tp_btf: reads the task. */
-SEC("tp_btf/remove_migration_pmd")
-int BPF_PROG(on_moved_pmd, unsigned long address, unsigned long entry)
-{
-	return on_moved(address, entry, PMD_ORDER);
-}
+IN_COPIES("tp_btf/remove_migration_pmd", on_moved_pmd, on_moved(copy, address, entry, PMD_ORDER),
+	  unsigned long address, unsigned long entry)
 
 /* remove_migration_pte: the same, of a page's first subpage alone: the kernel reports order 0 for the others. */
-SEC("tp_btf/remove_migration_pte")
-int BPF_PROG(on_moved_pte, unsigned long address, unsigned long entry, int order)
-{
-	return order < 2 ? 0 : on_moved(address, entry, order);
-}
+IN_COPIES("tp_btf/remove_migration_pte", on_moved_pte, order < 2 ? 0 : on_moved(copy, address, entry, order),
+	  unsigned long address, unsigned long entry, int order)
 
 /* address spaces, scans */
 
-/* sched_process_fork: a process or thread begins (FORK); what is known of its parent's address space is copied for the child's.
- * tp_btf: reads both tasks. */
-SEC("tp_btf/sched_process_fork")
-int BPF_PROG(on_fork, struct task_struct *parent, struct task_struct *child)
+static __always_inline int note_fork(int copy, struct task_struct *parent, struct task_struct *child)
 {
 	struct task_struct *task = bpf_get_current_task_btf();
 	__u64 from = (__u64)parent->mm, to = (__u64)child->mm;
 	struct thp_space *space;
 
-	if (!is_own(task) || !to || from == to)
+	if (!is_own(task) || !to || from == to || (copy && space_of(to)))
 		return 0;
 	space = space_of(from);
-	if (!space && !counters.unfiltered)
+	if (!space)
 		return 0;
-	if (space && bpf_map_update_elem(&spaces, &to, space, BPF_ANY))
-		counters.unfiltered = 1;
+	if (bpf_map_update_elem(&spaces, &to, space, BPF_ANY))
+		return lose();
 	return send(FORK, task, VALUES(from, to, child->tgid));
 }
 
-/* exit_mmap: an address space has ended, with the queue (EXIT_MMAP). tp_btf: reads the task. */
-SEC("tp_btf/exit_mmap")
-int BPF_PROG(on_exit_mmap, struct mm_struct *mm)
+/* sched_process_fork: a process or thread begins (FORK); what is known of its parent's address space is copied for the child's.
+ * tp_btf: reads both tasks. */
+IN_COPIES("tp_btf/sched_process_fork", on_fork, note_fork(copy, parent, child), struct task_struct *parent, struct task_struct *child)
+
+static __always_inline int end_space(int copy, struct mm_struct *mm)
 {
 	__u64 space = (__u64)mm;
 
-	if (bpf_map_delete_elem(&spaces, &space) && !counters.unfiltered)
+	if (bpf_map_delete_elem(&spaces, &space))
 		return 0;
-	return send_with_queue(EXIT_MMAP, bpf_get_current_task_btf(), VALUES(space));
+	return send_with_queue(OF_MM + copy, EXIT_MMAP, bpf_get_current_task_btf(), VALUES(space));
 }
 
-/* mm_shrink_slab_start: the shrinker begins on the queue, with the queue (SCAN). tp_btf: reads shrinker and control. */
-SEC("tp_btf/mm_shrink_slab_start")
-int BPF_PROG(on_scan, struct shrinker *shrinker, struct shrink_control *control, long deferred, unsigned long freeable,
-	     unsigned long long delta, unsigned long total)
+/* exit_mmap: an address space has ended, with the queue (EXIT_MMAP). tp_btf: reads the task. */
+IN_COPIES("tp_btf/exit_mmap", on_exit_mmap, end_space(copy, mm), struct mm_struct *mm)
+
+static __always_inline int begin_scan(int copy, struct shrinker *shrinker, struct shrink_control *control, unsigned long freeable,
+				      unsigned long total)
 {
 	struct task_struct *task = bpf_get_current_task_btf();
 	struct thp_task *state;
@@ -425,16 +430,17 @@ int BPF_PROG(on_scan, struct shrinker *shrinker, struct shrink_control *control,
 	if (settings.numa_node >= 0 && control->nid != settings.numa_node)
 		return 0;
 	state = state_of(task);
-	if (!state)
+	if (!state || (copy && state->scans))
 		return 0;
 	state->scans = true;
-	return send_with_queue(SCAN, task, VALUES(total, freeable));
+	return send_with_queue(OF_SCAN + copy, SCAN, task, VALUES(total, freeable));
 }
 
-/* mm_shrink_slab_end: the end of a scan of our queue, with the queue (SCANNED). Its group isn't among the arguments: the task's
- * state knows of the scan. tp_btf: reads the shrinker. */
-SEC("tp_btf/mm_shrink_slab_end")
-int BPF_PROG(on_scanned, struct shrinker *shrinker, int nid, int freed, long unused, long deferred, long total)
+/* mm_shrink_slab_start: the shrinker begins on the queue, with the queue (SCAN). tp_btf: reads shrinker and control. */
+IN_COPIES("tp_btf/mm_shrink_slab_start", on_scan, begin_scan(copy, shrinker, control, freeable, total), struct shrinker *shrinker,
+	  struct shrink_control *control, long deferred, unsigned long freeable, unsigned long long delta, unsigned long total)
+
+static __always_inline int end_scan(int copy, struct shrinker *shrinker, int freed, long total)
 {
 	struct task_struct *task = bpf_get_current_task_btf();
 	struct thp_task *state;
@@ -445,5 +451,10 @@ int BPF_PROG(on_scanned, struct shrinker *shrinker, int nid, int freed, long unu
 	if (!state || !state->scans)
 		return 0;
 	state->scans = false;
-	return send_with_queue(SCANNED, task, VALUES(freed, total));
+	return send_with_queue(OF_SCANNED + copy, SCANNED, task, VALUES(freed, total));
 }
+
+/* mm_shrink_slab_end: the end of a scan of our queue, with the queue (SCANNED). Its group isn't among the arguments: the task's
+ * state knows of the scan. tp_btf: reads the shrinker. */
+IN_COPIES("tp_btf/mm_shrink_slab_end", on_scanned, end_scan(copy, shrinker, freed, total),
+	  struct shrinker *shrinker, int nid, int freed, long unused, long deferred, long total)

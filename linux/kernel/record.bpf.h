@@ -7,8 +7,7 @@ const volatile struct thp_settings settings;
 const volatile __u32 nomemalloc, movable;	/* ___GFP_*: of an enumeration without a name, which CO-RE doesn't find */
 const volatile bool has_collapse_order;		/* an argument of a tracepoint, since Linux 7 */
 
-struct thp_counters counters;			/* except `missed` */
-__u64 caught;					/* runs that were left out of a first program, and a second one ran */
+struct thp_counters counters;
 
 enum { SPACES = 8192, HOMES = 65536, TRACKED = 65536, BLOCKS = 4096, RANGE = 32, INNER_LEVELS = 8, TRIES = 3, LARGE = 512 };
 
@@ -16,7 +15,9 @@ struct thp_task {
 	__u64 address, code;	/* its last fault; 0: a call began since */
 	__u64 fresh;		/* the huge page that it allocated last */
 	bool is_next;		/* its next event is sent in any case */
+	__u64 last;		/* the page or address of the last allocation or move that was sent, since its last fault or call */
 	bool has_entered;	/* the begin of its call was sent */
+	bool has_left;		/* the end of its call was sent */
 	bool scans;
 };
 
@@ -50,66 +51,35 @@ struct {
 MAP(spaces, HASH, SPACES, __u64, struct thp_space);
 MAP(homes, LRU_HASH, HOMES, struct thp_home, __u64);		/* the folio at a place of its order */
 MAP(tracked, HASH, TRACKED, __u64, struct thp_seen);		/* blocks whose frees are recorded, a bit for each frame whose free was */
-/* records with a queue, one of each kind, since an interrupt may send another */
-MAP(scratch, PERCPU_ARRAY, KINDS, __u32, struct thp_record);
+/* records with a queue, one of each program: on a processor it never runs within itself */
+enum slot { OF_MM, OF_COLLAPSE = COPIES, OF_SCAN = 2 * COPIES, OF_SCANNED = 3 * COPIES, OF_CALL = 4 * COPIES };
+MAP(scratch, PERCPU_ARRAY, 5 * COPIES, __u32, struct thp_record);
 
 static const struct thp_space blank;
 
 /*
- * Pairs of programs. The kernel leaves a program out where it would run within itself on a processor: in an interrupt, and where programs
- * can be preempted (Linux 7), in another task. So tracepoints that matter have a second program, which does the same if the first one
- * was left out. A run that both are left out of is missed, and counted.
+ * Programs in three copies. The kernel leaves a program out where it would run within itself on a processor: in an interrupt, and where
+ * programs can be preempted (Linux 7), in another task. So each tracepoint has three programs, and what the first one that runs has done,
+ * the others don't do again: a free has its bit, what a task does is in its state. All three are left out only where three other
+ * tasks were preempted in one of them each: no processor has three contexts below the one in which a page is freed.
  */
-enum pair { AT_ENTER, AT_EXIT, AT_USER_FAULT, AT_KERNEL_FAULT, AT_ALLOC, AT_FREE, PAIRS };
-struct thp_pair { __u64 done, seen; };	/* runs of the first program, and how many of them the second one has seen */
+#define ONE_COPY(section, name, number, call, arguments...)	\
+SEC(section)							\
+int BPF_PROG(name, arguments)					\
+{								\
+	enum { copy = number };					\
+	return call;						\
+}
 
-MAP(pairs, PERCPU_ARRAY, PAIRS, __u32, struct thp_pair);
+#define IN_COPIES(section, name, call, arguments...)		\
+	ONE_COPY(section, name, 0, call, arguments)		\
+	ONE_COPY(section, name##_2, 1, call, arguments)		\
+	ONE_COPY(section, name##_3, 2, call, arguments)
 
 static __always_inline int lose(void)
 {
 	__sync_fetch_and_add(&counters.lost, 1);
 	return 0;
-}
-
-/* The end of a first program. */
-static __always_inline int end_first(__u32 which)
-{
-	struct thp_pair *pair = bpf_map_lookup_elem(&pairs, &which);
-
-	if (pair)
-		pair->done++;
-	return 0;
-}
-
-/* Whether the first program was left out, for the second one. */
-static __always_inline bool was_left_out(__u32 which)
-{
-	struct thp_pair *pair = bpf_map_lookup_elem(&pairs, &which);
-	__u64 seen;
-
-	if (!pair)
-		return false;
-	seen = pair->seen;
-	pair->seen = pair->done;
-	if (pair->seen != seen)
-		return false;
-	__sync_fetch_and_add(&caught, 1);
-	return true;
-}
-
-#define PAIR(section, name, which, call, arguments...)		\
-SEC(section)							\
-int BPF_PROG(name, arguments)					\
-{								\
-	call;							\
-	return end_first(which);				\
-}								\
-SEC(section)							\
-int BPF_PROG(name##_again, arguments)				\
-{								\
-	if (was_left_out(which))				\
-		call;						\
-	return 0;						\
 }
 
 /* tasks and address spaces */
@@ -146,7 +116,7 @@ static __always_inline struct thp_task *own_state(struct task_struct *task)
 	return is_own(task) ? state_of(task) : 0;
 }
 
-/* Notes that an address space has a page at an address. */
+/* Notes that an address space has a page at an address. What is done in one for which there is no room counts as lost. */
 static __always_inline void add_page(__u64 mm, __u64 address)
 {
 	__u64 block = address >> (BASE_BITS + PMD_ORDER);
@@ -159,7 +129,7 @@ static __always_inline void add_page(__u64 mm, __u64 address)
 	if (space)
 		__sync_fetch_and_or(&space->bits[block % BLOCKS / 64], 1ull << block % 64);
 	else
-		counters.unfiltered = 1;
+		lose();
 }
 
 /* Whether an address space may have a page in one of these blocks. */
@@ -217,7 +187,7 @@ static long step(__u32 index, struct thp_walk *walk)
 	if (bpf_rdonly_cast)	/* a load instead of a call of a helper for each page */
 		walk->at = (__u64)((struct list_head *)bpf_rdonly_cast(link, bpf_core_type_id_kernel(struct list_head)))->next;
 	else
-		walk->at = (__u64)READ(&link->next);
+		walk->at = (__u64)READ(link->next);
 	walk->count = index + 1;
 	return 0;
 }
@@ -233,7 +203,7 @@ static __always_inline int add_queue(struct thp_record *record)
 	if (!walk.head)
 		count = 0;
 	for (int i = 0; i < TRIES && count > QUEUE_MOST; i++) {
-		walk.at = (__u64)READ(&((struct list_head *)walk.head)->next);
+		walk.at = (__u64)READ(((struct list_head *)walk.head)->next);
 		walk.count = 0;
 		bpf_loop(QUEUE_MOST + 1, step, &walk, 0);
 		if (walk.at == walk.head)
@@ -247,9 +217,9 @@ static __always_inline int add_queue(struct thp_record *record)
 	return lose();
 }
 
-static __always_inline int send_with_queue(__u32 kind, struct task_struct *task, const __u64 *values)
+static __always_inline int send_with_queue(__u32 slot, enum kind kind, struct task_struct *task, const __u64 *values)
 {
-	struct thp_record *record = bpf_map_lookup_elem(&scratch, &kind);
+	struct thp_record *record = bpf_map_lookup_elem(&scratch, &slot);
 
 	if (!record)
 		return 0;

@@ -7,7 +7,7 @@ enum { PMD_ORDER = 9, BASE_BITS = 12 };
 
 /* records of a recording: linux/record/records.py, Kind */
 
-enum { QUEUE_MOST = 500 };	/* pages of a queue that a record has room for */
+enum { QUEUE_MOST = 500, COPIES = 3 };	/* pages of a queue that a record has room for; programs of a tracepoint (record.bpf.h) */
 enum kind { ENTER, EXIT, FAULT, ALLOC, FREE, FORK, EXIT_MMAP, SCAN, SCANNED, COPY, COLLAPSED, MOVED, KINDS };
 enum how { IN_FAULT = 1, IN_NONE = 2 };
 
@@ -33,8 +33,7 @@ struct thp_settings {
 
 struct thp_counters {
 	unsigned long long lost;	/* records that found no room */
-	unsigned long long missed;	/* runs that the kernel left out, since they would have interrupted the same program */
-	unsigned long long unfiltered;	/* not 0: too many address spaces, so that all records are sent */
+	unsigned long long missed;	/* ends of calls that no program saw */
 	unsigned long long inner_pages;	/* huge pages of groups in the recorded one */
 };
 

@@ -1,11 +1,10 @@
 """Records the kernel's own deferred split queue as a journal, and has `thpcheck` check it.
 
     options          the command line
-    recorder         a recording: control groups, BPF programs (linux/kernel/record.bpf.c), the commands that run
-        commands     commands in control groups, from their start to their end
-    scratch          a temporary file without a name
-    store            records on disk, read back in passes
-    records          the kinds and fields of records
+    recorder         a recording: a control group, BPF programs (linux/kernel/record.bpf.c), the commands that run
+        commands     commands in the control group, from their start to their end
+    scratch          temporary files without names: the journal's lines
+    records          the kinds and fields of records, which are on disk and read back in passes
     calls            effects of system calls on mappings
     journal_builder  builds a journal from records: it is a ScanEvents, which is a QueueMatcher, and so on
         scans            pages that the shrinker took, split and put back
@@ -15,7 +14,7 @@
         lines            the journal's latest lines, and older ones on disk
     outputs          the journal as a file, its check, and the output files
     reasons          everything that is counted and left out, with what to do
-    report           the verdict, and what is printed
+    report           the journal as a file, the output files, the verdict, and what is printed
     workload.c  threads that make, divide and drop huge pages
-    __main__    recordings, one after another, and what is printed
+    __main__    the tool
 """

@@ -62,8 +62,7 @@ def has_succeeded(call: Record, answer: int) -> bool:
 
 
 def list_effects(call: Record, answer: int | None = None) -> list[Effect]:
-    """Returns the effects of a call, in order. Without a return value the call still runs: its effects if it succeeds,
-    except moves."""
+    """Returns the effects of a call, in order. Without a return value the call still runs: its effects if it succeeds, except moves."""
     number, start, length, third, program_break = call.values[:5]
     end = _round_up(start + length)
     if number in (MUNMAP, MMAP):  # of mmap those alone are recorded that replace what is there

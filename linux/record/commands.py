@@ -1,4 +1,4 @@
-"""The recorded commands, in control groups, from their start to their end."""
+"""The recorded commands, in a control group, from their start to their end."""
 
 from __future__ import annotations
 
@@ -6,19 +6,16 @@ import os
 import signal
 import subprocess
 import time
-from contextlib import ExitStack, suppress
 from typing import Callable, Sequence
 
 from ..common.errors import RunFailed, signals_wait
 from ..common.files import write
-from ..common.guardian import folders_below, members
-from ..common.keeper import Keeper
+from ..common.guardian import folders_below, members, signal_members
 from ..common.text import escape
 from ..common.user import User
 
 PATIENCE = 2.0  # seconds from SIGTERM to SIGKILL
 PAUSE = 0.002  # seconds between two looks
-HELD = 100  # processes that are held at a time
 
 
 class Interrupts:
@@ -40,17 +37,17 @@ class Interrupts:
 
 
 class Commands:
-    """Children in control groups. `take` is called repeatedly while they run."""
+    """Children in a control group. `take` is called repeatedly while they run."""
 
-    def __init__(self, keeper: Keeper, groups: Sequence[str], take: Callable[[], None]) -> None:
-        self._keeper, self._groups, self._take = keeper, groups, take
+    def __init__(self, group: str, take: Callable[[], None]) -> None:
+        self._group, self._take = group, take
         self._children: list[subprocess.Popen[bytes]] = []
 
-    def start(self, words: Sequence[str], group: str, user: User | None) -> None:
-        """Starts a command in a group, as a user; None: as the tool."""
+    def start(self, words: Sequence[str], user: User | None) -> None:
+        """Starts a command in the group, as a user; None: as the tool."""
 
         def enter() -> None:
-            write(f"{group}/cgroup.procs", os.getpid())
+            write(f"{self._group}/cgroup.procs", os.getpid())
             if user:
                 user.enter()
             signal.pthread_sigmask(signal.SIG_SETMASK, former)
@@ -63,7 +60,6 @@ class Commands:
         except (OSError, subprocess.SubprocessError, ValueError) as error:
             reason = getattr(error, "strerror", None) or str(error)
             raise RunFailed(f"{escape(words[0])} can't be started: {reason}") from error
-        self._keeper.own(child.pid)
         self._children.append(child)
 
     def is_running(self) -> bool:
@@ -71,11 +67,11 @@ class Commands:
         return any([child.poll() is None for child in self._children])
 
     def end(self) -> None:
-        """Ends all processes of the groups: by SIGTERM, after a while by SIGKILL."""
+        """Ends all processes of the group: by SIGTERM, after a while by SIGKILL."""
         for sent in (signal.SIGTERM, signal.SIGKILL):
             self._send(sent)
             until = time.monotonic() + PATIENCE
-            while (self.is_running() or any(map(members, self._folders()))) and time.monotonic() < until:
+            while (self.is_running() or any(map(members, folders_below(self._group)))) and time.monotonic() < until:
                 time.sleep(PAUSE)
                 self._take()
                 if sent is signal.SIGKILL:
@@ -87,25 +83,10 @@ class Commands:
         return ["still runs" if each is None else f"ended with status {each}" if each >= 0 else f"was killed by {_signal_name(-each)}"
                 for each in statuses]
 
-    def _folders(self) -> list[str]:
-        """Returns the groups, and those that the commands have made in them."""
-        return [folder for group in self._groups for folder in folders_below(group)]
-
     def _send(self, number: signal.Signals) -> None:
-        """Signals all processes of the groups, and the commands wherever they are, which nobody else reaps. A process is held by its
-        descriptor while its group is looked up once more, so that the signal reaches no other that has its number."""
-        for folder in self._folders():
-            processes = members(folder)
-            for first in range(0, len(processes), HELD):
-                with ExitStack() as stack:
-                    held = {}
-                    for process in processes[first : first + HELD]:
-                        with suppress(OSError):  # it has ended
-                            held[process] = os.pidfd_open(process)
-                            stack.callback(os.close, held[process])
-                    for process in held.keys() & {*members(folder)}:
-                        with suppress(OSError):
-                            signal.pidfd_send_signal(held[process], number)
+        """Signals all processes of the group and of those made in it, and the commands wherever they are, which nobody else reaps."""
+        for folder in folders_below(self._group):
+            signal_members(folder, number)
         for child in self._children:
             child.send_signal(number)  # nothing where it has ended
 

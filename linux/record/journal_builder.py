@@ -129,9 +129,8 @@ class JournalBuilder(ScanEvents):
         page.is_seen = True
 
     def handle_copy(self, record: Record) -> None:
-        """Follows a copy on write: a base page allocated in a fault on a mapped subpage. It counts as a call that unmaps
-        the subpage and ends by its task's next record: the old frame is freed some microseconds after the new one is
-        allocated."""
+        """Follows a copy on write: a base page allocated in a fault on a mapped subpage. It counts as a call that unmaps the subpage and
+        ends by its task's next record: the old frame is freed some microseconds after the new one is allocated."""
         _, how, address, code = record.values[:4]
         if how != IN_FAULT or code & WRITTEN != WRITTEN:
             return

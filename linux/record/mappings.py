@@ -185,9 +185,7 @@ class MappingEvents(State):
         """Returns the subpages before a border of page tables; none where the page begins at one."""
         return bits_of(0, -mapping.base // BASE % (1 << PMD_ORDER))
 
-    def _outcome(
-        self, record: Record, page: Page, before: int, queue: list[int] | None, last: bool
-    ) -> tuple[str, int]:
+    def _outcome(self, record: Record, page: Page, before: int, queue: list[int] | None, last: bool) -> tuple[str, int]:
         """Returns the outcome of an unmap, and the frames given back."""
         after = page.used_subpages()
         if page.split:

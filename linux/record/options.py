@@ -6,7 +6,6 @@ import os
 import re
 import shutil
 from argparse import ArgumentTypeError, Namespace
-from typing import NamedTuple
 
 from ..common.arguments import OneLineParser, seconds, tool_parser, whole, wholes
 from ..common.errors import InputFault
@@ -17,24 +16,16 @@ from ..common.user import user_for
 NODES = 8  # of a journal (docs/FORMATS.md)
 OWN_WORDS = ("zeros", "collapse", "areas")
 LONG = 1000000000.0  # seconds
-MANY = 10 ** 15
 
 
-class OwnWorkload(NamedTuple):
-    """The tool's own workload: threads, steps, seed, and words."""
-
-    threads: int
-    steps: int
-    seed: int
-    extra: list[str]
-
-
-def parse_workload(text: str) -> OwnWorkload:
-    """Returns the own workload by its text; the limits are those of workload.c."""
+def parse_workload(text: str) -> list[str]:
+    """Returns the words of the own workload: threads, steps, seed, and perhaps others; the limits are those of workload.c."""
     words = text.split(",")
     if len(words) < 3 or not {*words[3:]} <= {*OWN_WORDS}:
         raise ArgumentTypeError(f"it needs THREADS,STEPS,SEED, and perhaps {', '.join(OWN_WORDS)}")
-    return OwnWorkload(whole(1, 64)(words[0]), whole(0, 10 ** 9)(words[1]), whole(0, 2000000)(words[2]), words[3:])
+    for word, most in zip(words, (64, 10 ** 9, 2000000)):
+        whole(int(most == 64), most)(word)
+    return words
 
 
 def parse_orders(text: str) -> list[int]:
@@ -61,9 +52,6 @@ def parse_size(text: str) -> int:
 def parse_options(text: str, name: str, words: list[str] | None = None) -> Namespace:
     """Returns the options of a command line; `user` is the User who runs the command."""
     options = _parser(text, name).parse_args(words)
-    check_nodes(options, 1)
-    if options.command and options.groups > 1:
-        raise InputFault("a command runs in one group")
     if options.user is not None and not options.command:
         raise InputFault("--user needs a command")
     options.user = user_for(options.user) if options.command else None
@@ -71,10 +59,9 @@ def parse_options(text: str, name: str, words: list[str] | None = None) -> Names
 
 
 def check_nodes(options: Namespace, queues: int) -> None:
-    """InputFault where a journal with so many queues of each group has too many nodes."""
-    if options.groups * len(options.order) * queues > NODES:
-        numa_nodes = f" times {queues} NUMA nodes" if queues > 1 else ""
-        raise InputFault(f"--groups times --order{numa_nodes} are at most {NODES} nodes")
+    """InputFault where a journal with so many queues has too many nodes."""
+    if len(options.order) * queues > NODES:
+        raise InputFault(f"the orders times {queues} NUMA nodes are more than {NODES} nodes of a journal")
 
 
 def check_command(options: Namespace) -> None:
@@ -90,20 +77,17 @@ def _parser(text: str, name: str) -> OneLineParser:
     add("--program", metavar="PATH", help="the thpsplit to use instead")
     add("--own", type=parse_workload, default="1,300,1", metavar="THREADS,STEPS,SEED[,WORDS]", help="the tool's own workload")
     add("--order", type=parse_orders, default=[PMD_ORDER], metavar="LIST", help="the orders of pages that are followed")
-    add("--groups", type=whole(1, NODES), default=1, metavar="N", help="control groups, each with the workload")
     add("--underused", type=parse_threshold, default="off", help="off, a threshold, or as-is: leave the machine's setting")
+    add("--enabled", choices=("madvise", "always"), default="madvise", help="which areas get pages of these orders (madvise)")
     add("--every", type=seconds(0, LONG), default=0.02, metavar="SECONDS", help="between two reclaims; 0: none")
     add("--collapse", type=whole(0, 2 ** 32 - 1), metavar="MS", help="khugepaged's pause; long with --own")
-    add("--compact", action="store_true", help="compact all memory with each reclaim: pages migrate")
     add("--strict", action="store_true", help="allow no known difference")
     add("--require", type=seconds(0, 100), default=95.0, metavar="PERCENT", help="the pages that are followed at least; 95")
     add("--out", metavar="FILE", help="write the journal into this new file")
     add("--times", metavar="FILE", help="write the time of each event into this new file")
     add("--contents", type=seconds(0.01, LONG), metavar="SECONDS", help="look at the pages' contents so often")
     add("--records", metavar="FILE", help="write the records into this new file; further queues' to FILE.2 ..")
-    add("--least", type=whole(0, MANY), default=0, metavar="EVENTS", help="more seeds until so many events")
     add("--seconds", type=seconds(0.001, LONG), metavar="N", help="end the recording, and the command, after N seconds")
-    add("--events", type=whole(1, MANY), metavar="N", help="end them once N events of the kernel are recorded")
     add("--disk", type=parse_size, default="1G", metavar="SIZE",
         help="end them once the records take so many bytes on disk (K, M, G, T); 1G")
     add("--user", metavar="NAME", help="who runs the command; by default the caller of sudo")

@@ -49,8 +49,7 @@ class QueueMatcher(MappingEvents):
                         page.join = None  # its place is known
 
     def _is_journal_queue(self, queue: list[int]) -> bool:
-        """Returns whether a copy equals the journal's queue and nothing runs that it could show: the usual case, and
-        quick."""
+        """Returns whether a copy equals the journal's queue and nothing runs that it could show: the usual case, and quick."""
         if self.scans or self.joining or len(queue) != len(self.queue):
             return False
         same = all(page.folio == folio and self.at.get(folio) is page for page, folio in zip(self.queue, queue))
@@ -108,8 +107,7 @@ class QueueMatcher(MappingEvents):
             queue.sort(key=lambda page: page in later)  # stable: the later ones go to the end
 
     def _reorder(self, kernels: list[Page]) -> None:
-        """Moves events of a page to an earlier place: pages of two tasks may join in another order than that in which
-        their calls end."""
+        """Moves events of a page to an earlier place: pages of two tasks may join in another order than that in which their calls end."""
         mine = [page for page in self.queue if page in kernels]
         for i, page in enumerate(kernels):
             other = mine[i]

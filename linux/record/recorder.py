@@ -1,4 +1,4 @@
-"""A recording: control groups, trace programs for each, the commands that run in them, and reclaims."""
+"""A recording: a control group, trace programs for its queues, the commands that run in it, and reclaims."""
 
 from __future__ import annotations
 
@@ -9,26 +9,25 @@ import os
 import threading
 import time
 from argparse import Namespace
-from contextlib import closing, suppress
+from contextlib import ExitStack, closing
 from dataclasses import dataclass
 from functools import partial
-from typing import Callable, Iterator, Sequence
+from typing import Callable, Iterable, Iterator, Sequence
 
 from ..common.errors import RunFailed, Unavailable
-from ..common.files import COLLAPSE_SLEEP, COMPACT, PMD_ORDER, PTES_NONE, SWITCH, read, size_folder, write
+from ..common.files import COLLAPSE_SLEEP, PMD_ORDER, PTES_NONE, SWITCH, read, size_folder
 from ..common.groups import Groups
 from ..common.guardian import members
 from ..common.keeper import Keeper
 from ..common.kernel_library import Counters, Settings, load_library, open_programs
 from ..common.kernel_memory import KernelMemory
-from ..common.numa import numa_frames
+from ..common.page_files import numa_frames
 from ..common.reader import Reader
 from ..common.second_look import SecondLook
 from .commands import PAUSE, Commands, Interrupts
 from .reasons import Doubt
-from .records import HEAD, SET, Kind
+from .records import HEAD, SET, Kind, Store
 from .scratch import FOLDER
-from .store import Store
 
 RING = 1 << 24  # bytes of all rings; all of them count as resident
 QUIET = 3600000  # milliseconds between khugepaged's rounds
@@ -41,7 +40,7 @@ class Track:
     those of the queue's NUMA node are; none: those of all nodes. `lacking` names what this kernel doesn't report."""
 
     def __init__(self, memory: KernelMemory, path: str, node: int | None, orders: Sequence[int], room: int, folder: str) -> None:
-        self.path, self.store = path, Store(folder)
+        self.store = Store(folder)
         self.folios: tuple[range, ...] = ()
         if node is not None and len(memory.numa_nodes()) > 1:
             self.folios = tuple(range(memory.folio(each.start), memory.folio(each.stop)) for each in numa_frames()[node])
@@ -53,8 +52,7 @@ class Track:
         self._recorder, self.lacking = open_programs("thp_record_open", ctypes.byref(settings))
 
     def counters(self) -> Counters:
-        """Returns how many records were lost, runs were left out, and huge pages were allocated in inner groups; and whether there
-        were too many address spaces."""
+        """Returns how many records were lost, runs were left out, and huge pages were allocated in inner groups."""
         found = Counters()
         self._library.thp_record_counters(self._recorder, ctypes.byref(found))
         return found
@@ -66,7 +64,7 @@ class Track:
         failed = self._library.thp_record_take(self._recorder, self.store.descriptor, max(room, 0), ctypes.byref(count))
         if failed not in (0, -errno.EXFULL):
             raise RunFailed(f"the records can't be written to disk: {os.strerror(-failed)}")
-        self.store.note_records(count.value)
+        self.store.count += count.value
         return not failed
 
     def close(self) -> None:
@@ -101,29 +99,25 @@ class Recording:
 
 
 class Taker:
-    """Takes the records of all queues, until they take so many bytes on disk (`is_full`). `look`: yields the records of what the pages
-    of a control group contain; it is called so often."""
+    """Takes the records of all queues, until they take so many bytes on disk (`is_full`). `look`: yields records of what pages contain;
+    it is called so often."""
 
-    def __init__(self, tracks: Sequence[Track], most: int, look: Callable[[str], Iterator[bytes]], every: float | None) -> None:
+    def __init__(self, tracks: Sequence[Track], most: int, look: Callable[[], Iterable[bytes]], every: float | None) -> None:
         self._tracks, self._most, self._look = tracks, most, look
         self._every = math.inf if every is None else every
         self._due = time.monotonic() + self._every
         self.is_full = False
-
-    def count(self) -> int:
-        """Returns how many records have come."""
-        return sum(track.store.count for track in self._tracks)
 
     def take(self) -> None:
         """Takes what has come since the last call."""
         self._take_records()
         if time.monotonic() < self._due:
             return
-        found = {path: list(self._look(path)) for path in {track.path for track in self._tracks}}
+        found = [*self._look()]
         self._take_records()
         for track in self._tracks:
-            for record in found[track.path] if not self.is_full else ():
-                track.store.append(record)
+            for record in found if not self.is_full else ():
+                track.store.add(record)
         self._due = time.monotonic() + self._every
 
     def _take_records(self) -> None:
@@ -133,10 +127,10 @@ class Taker:
 
 
 class Recorder:
-    """Makes control groups, and records commands that run in them."""
+    """Makes a control group, and records commands that run in it."""
 
     def __init__(self, options: Namespace, keeper: Keeper, memory: KernelMemory) -> None:
-        self._options, self._keeper, self._memory = options, keeper, memory
+        self._options, self._memory = options, memory
         if options.collapse is not None or not options.command:
             keeper.set(COLLAPSE_SLEEP, QUIET if options.collapse is None else options.collapse)
         if options.underused != "as-is":
@@ -146,47 +140,46 @@ class Recorder:
                 keeper.set(PTES_NONE, options.underused)
             for order in options.order:
                 if os.path.isdir(size_folder(order)):
-                    keeper.set(f"{size_folder(order)}/enabled", "madvise")
+                    keeper.set(f"{size_folder(order)}/enabled", options.enabled)
                 elif order < PMD_ORDER:  # before Linux 6.8, PMD size has no settings of its own
                     raise Unavailable(f"this kernel has no pages of order {order}")
         self._groups = Groups(keeper, "thprecord")
-        self._paths = [self._groups.add(f"node{number}") for number in range(options.groups)]
+        self._path = self._groups.add("recorded")
 
     def record(self, commands: list[list[str]]) -> Recording:
-        """Records these commands in each group until all have ended, or have to end."""
+        """Records these commands until all have ended, or have to end."""
         options, nodes = self._options, self._memory.numa_nodes()
         threshold = int(read(PTES_NONE)) if os.path.exists(SWITCH) and read(SWITCH).strip() == "1" else None
         folder = os.path.dirname(os.path.abspath(options.records)) if options.records else FOLDER
-        room = 1 << (RING // (len(self._paths) * len(nodes))).bit_length() - 1
-        tracks: list[Track] = []
-        try:
-            for path in self._paths:
-                for node in nodes:
-                    tracks.append(Track(self._memory, path, node, options.order, room, folder))
-            look = partial(look_at_contents, self._memory, orders=options.order)
+        room = 1 << (RING // len(nodes)).bit_length() - 1
+        with ExitStack() as stack:
+            tracks = [stack.enter_context(closing(Track(self._memory, self._path, node, options.order, room, folder))) for node in nodes]
+            look = partial(look_at_contents, self._memory, self._path, options.order)
             taker = Taker(tracks, options.disk, look, options.contents)
-            running = Commands(self._keeper, self._paths, taker.take)
+            running = Commands(self._path, taker.take)
             ended = self._run(running, commands, taker)
-            return describe(tracks, running, taker.is_full, ended, threshold)
-        finally:
-            for track in tracks:
-                track.close()
+            recording = describe(tracks, running, taker.is_full, ended, threshold)
+        return recording
 
     def _run(self, running: Commands, commands: list[list[str]], taker: Taker) -> str:
         """Runs the commands to their end; returns why they were ended."""
         with Interrupts() as interrupts:
-            for path in self._paths:
-                for command in commands:
-                    running.start(command, path, self._options.user)
+            for command in commands:
+                running.start(command, self._options.user)
             over = threading.Event()
             reclaimer = threading.Thread(target=self._reclaim, args=(over,))
             reclaimer.start()
-            begun, why = time.monotonic(), ""
+            until, why = time.monotonic() + (self._options.seconds or math.inf), ""
             try:
                 while not why and running.is_running():
                     time.sleep(PAUSE)
                     taker.take()
-                    why = self._end_reason(begun, taker, interrupts)
+                    if interrupts.name:
+                        why = f"by {interrupts.name}"
+                    elif time.monotonic() >= until:
+                        why = f"after {self._options.seconds:g} seconds"
+                    elif taker.is_full:
+                        why = "at the limit of --disk"
                 if why:
                     running.end()
             finally:
@@ -196,38 +189,18 @@ class Recorder:
             taker.take()
         return why
 
-    def _end_reason(self, begun: float, taker: Taker, interrupts: Interrupts) -> str:
-        """Returns why the recording has to end; "": it continues."""
-        options = self._options
-        if interrupts.name:
-            return f"by {interrupts.name}"
-        if options.seconds is not None and time.monotonic() >= begun + options.seconds:
-            return f"after {options.seconds:g} seconds"
-        if options.events is not None and taker.count() >= options.events:
-            return f"after {options.events} events"
-        return "at the limit of --disk" if taker.is_full else ""
-
     def _reclaim(self, over: threading.Event) -> None:
         """Reclaims again and again, beside the reader of records, which must not wait for it."""
         while self._options.every and not over.wait(self._options.every):
-            for path in self._paths:
-                self._groups.reclaim(path)
-            if self._options.compact:
-                with suppress(OSError):  # the next round tries it again
-                    write(COMPACT, 1)
+            self._groups.reclaim(self._path)
 
 
 def describe(tracks: list[Track], running: Commands, is_full: bool, ended: str, threshold: int | None) -> Recording:
     """Returns a recording that has ended. Each queue's programs count all huge pages below its group."""
     lacking, counters = list(tracks[0].lacking), [track.counters() for track in tracks]
-    inner_pages: dict[str, int] = {}
-    for track, each in zip(tracks, counters):
-        inner_pages[track.path] = max(inner_pages.get(track.path, 0), each.inner_pages)
-    if any(inner_pages.values()):
-        inner = sum(inner_pages.values())
-        lacking.append(f"control groups were made in a recorded one: {inner} huge pages of their tasks aren't followed")
-    if any(each.unfiltered for each in counters):
-        lacking.append("more address spaces than can be known: all records were kept from then on")
+    inner = max(each.inner_pages for each in counters)
+    if inner:
+        lacking.append(f"control groups were made in the recorded one: {inner} huge pages of their tasks aren't followed")
     lost, missed = sum(each.lost for each in counters), sum(each.missed for each in counters)
     doubts = {Doubt.LOST: lost, Doubt.MISSED: missed, Doubt.DISK_FULL: is_full * sum(track.store.count for track in tracks)}
     return Recording(tracks, doubts, running.statuses(), ended, lacking, threshold)

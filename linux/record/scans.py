@@ -91,8 +91,7 @@ class ScanEvents(QueueMatcher):
                 continue  # a copy that was begun before the scan shows nothing of it
             made = start.folios_made or {}  # in these folios the scan's end shows other pages
             back = [folio for folio in end if folio in start.queue[:reach] and folio not in made]
-            new = [folio for folio in queue if folio not in own_queue and folio not in start.queue
-                   and made.get(folio, 0) <= self.now]
+            new = [folio for folio in queue if folio not in own_queue and folio not in start.queue and made.get(folio, 0) <= self.now]
             if not {*back} <= {*queue}:
                 continue  # it still puts pages back, one by one (Linux 7)
             if any(folio in end and back and end.index(back[0]) < end.index(folio) for folio in new):
@@ -191,8 +190,7 @@ class ScanEvents(QueueMatcher):
                 scan.pages.append(page)
 
     def _emit_frees(self, pages: list[Page | None], queue: list[int]) -> None:
-        """Emits the frees of pages during a scan that no event shows yet: a running call freed the page, or a process
-        that is ending."""
+        """Emits the frees of pages during a scan that no event shows yet: a running call freed the page, or a process that is ending."""
         for page in [page for page in pages if page and page.is_freed]:
             for call in self.calls_reaching(page):
                 if page.is_live:

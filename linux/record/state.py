@@ -14,9 +14,9 @@ from typing import Iterable, Iterator, Sequence
 from ..common.files import BASE, PMD_ORDER
 from ..common.journal import FILLING, Event
 from ..common.subpages import bits_of, size
-from .lines import JournalLine, JournalLines
 from .reasons import Doubt, Omission, Reason
 from .records import Kind, Record
+from .scratch import JournalLine, JournalLines
 
 MOST_BLOCKS, CALLERS = 4096, 64  # of a journal's node (docs/FORMATS.md)
 FOREVER = 1 << 64
@@ -25,8 +25,7 @@ SPARE_BLOCKS = 8  # of a journal's node, beyond the pages that lived at once
 
 @dataclass(eq=False)
 class Mapping:
-    """One address space's mapping of a page: where subpage 0 is, whether by a PMD entry, which subpages, and since when
-    it is there."""
+    """One address space's mapping of a page: where subpage 0 is, whether by a PMD entry, which subpages, and since when it is there."""
 
     space: int
     base: int
@@ -177,9 +176,7 @@ class State:
         """Returns why the events at a time are in doubt."""
         return next((why for why, begin, end in self._doubts if begin <= time <= end), None)
 
-    def emit(
-        self, task: int, page: Page, word: str, first: int = 0, count: int = 0, outcome: str = "", given: int = 0
-    ) -> None:
+    def emit(self, task: int, page: Page, word: str, first: int = 0, count: int = 0, outcome: str = "", given: int = 0) -> None:
         """Emits an event of a page."""
         event = Event(self.caller_of(task), word, page.number, first, count, outcome, given)
         self.lines.add(JournalLine(page.number, event.text(), self.now))

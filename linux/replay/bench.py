@@ -6,46 +6,24 @@ import argparse
 import os
 import re
 import resource
+import sys
 from collections.abc import Iterator
 from contextlib import closing, contextmanager
 from dataclasses import dataclass
-from pathlib import Path
 
 from ..common import machine
-from ..common.errors import RunFailed, Unavailable
-from ..common.files import COLLAPSE_SLEEP, PMD_ORDER, PTES_NONE, SWITCH, size_folder, write
-from ..common.groups import Groups, find_hierarchy
+from ..common.errors import Unavailable
+from ..common.files import COLLAPSE_SLEEP, PMD_ORDER, PTES_NONE, SWITCH, size_folder
+from ..common.groups import Groups
 from ..common.keeper import Keeper
 from ..common.kernel_memory import KernelMemory
 from ..common.page_files import Frames
 from ..common.program import Program
 from ..common.script import Options
 from .expected_answers import Unsupported
-from .mappers import Mapper, start_root
+from .mappers import Mapper
 
-NEEDED = ["root", "huge pages", "memory control groups", "frames", "counters"]
-SHRINKERS, SHRINKER = "/sys/kernel/debug/shrinker", "thp-deferred_split-"
 QUIET = 3600000  # milliseconds between khugepaged's rounds: it collapses nothing meanwhile
-
-
-class ShrinkerFile:
-    """The file `scan` of the shrinker in debugfs (SHRINKER_DEBUG): it scans so many pages as it is asked for, in one pass without
-    a reclaim. It finds no control groups of version 1 (Documentation/admin-guide/mm/shrinker_debugfs.rst, mm/shrinker_debug.c)."""
-
-    def __init__(self, version: int, folder: str = SHRINKERS) -> None:
-        if version != 2:
-            raise Unavailable("exact scans need control groups of version 2")
-        found = sorted(Path(folder).glob(f"{SHRINKER}*"))
-        if not found:
-            raise Unavailable(f"no {folder}/{SHRINKER}*: the kernel lacks SHRINKER_DEBUG, or debugfs isn't mounted")
-        self._path = found[0] / "scan"
-
-    def scan(self, group: str, numa_node: int, count: int) -> None:
-        """Scans so many pages of the queue of a control group, by its folder, and of a NUMA node."""
-        try:
-            write(self._path, f"{os.stat(group).st_ino} {numa_node} {count}")
-        except OSError as error:
-            raise RunFailed(f"{self._path} doesn't scan: {error.strerror}") from error
 
 
 @dataclass(frozen=True)
@@ -58,20 +36,17 @@ class Server:
 
 
 class Bench:
-    """Made once; prepared for each script. `memory`: None where queues aren't read; `shrinker`: None where scans are reclaims."""
+    """Made once; prepared for each script. `memory`: None where queues aren't read."""
 
-    def __init__(
-        self, keeper: Keeper, parts: list[machine.Part], program: Program, memory: KernelMemory | None, shrinker: ShrinkerFile | None
-    ) -> None:
+    def __init__(self, keeper: Keeper, program: Program, memory: KernelMemory | None) -> None:
         _, most = resource.getrlimit(resource.RLIMIT_NOFILE)
         resource.setrlimit(resource.RLIMIT_NOFILE, (most, most))  # each mapping process needs three
-        self._keeper, self.parts, self.program, self.memory, self.shrinker = keeper, parts, program, memory, shrinker
+        self._keeper, self.program, self.memory = keeper, program, memory
         # letter P: until Linux 6.10, mm/rmap.c queues a page that loses a PTE mapping even if no other is left
         self.unmaps_singly = [int(number) for number in re.findall("[0-9]+", os.uname().release)[:2]] < [6, 10]
         keeper.set(COLLAPSE_SLEEP, QUIET)
         self.frames = Frames()
         self.groups = Groups(keeper, "thpreplay")
-        self._root = start_root(keeper)
         self.servers: list[Server] = []
         self._groups_made = 0
 
@@ -103,10 +78,7 @@ class Bench:
         while len(self.servers) < options.nodes:
             path = self.groups.add(f"node{self._groups_made}")
             self._groups_made += 1
-            process = self._root.fork()
-            self._keeper.own_descriptor(process.pidfd)
-            process.enter(path)
-            self.servers.append(Server(path, process, self.memory.group(path) if self.memory else 0))
+            self.servers.append(Server(path, Mapper.start(path), self.memory.group(path) if self.memory else 0))
 
     def queues(self, node: int) -> dict[int, list[int]] | None:
         """Returns the first frames of the pages in a node's queue, oldest first, by NUMA node; None where queues aren't read."""
@@ -118,25 +90,20 @@ class Bench:
     def close(self) -> None:
         """Ends all processes."""
         self.renew()
-        self._root.end()
         self.frames.close()
 
 
 @contextmanager
 def open_bench(name: str, options: argparse.Namespace) -> Iterator[Bench]:
     """Opens the bench of a tool (options.py). Unavailable where the machine lacks what it needs; Busy where another tool runs."""
-    parts, memory = machine.common_parts(), None
-    if options.no_memory:
-        parts.append(machine.Part("kernel memory", False, "not wanted (--no-memory)"))
-    else:
-        memory, more = machine.memory()
-        memory = memory if all(part.here for part in more) else None
-        parts += more
-    machine.demand(parts, NEEDED)
-    shrinker = ShrinkerFile(find_hierarchy().version) if options.exact_scans else None
-    if shrinker and not memory:
-        raise Unavailable("exact scans need queues, which are in kernel memory")
+    machine.demand_common()
+    memory = None
+    if not options.no_memory:
+        try:
+            memory = machine.open_memory()
+        except Unavailable as lacking:
+            print(f"{name}: queues are not compared: {machine.first_line(lacking)}", file=sys.stderr, flush=True)
     program = Program(options.program)
     with Keeper(name, options.wait) as keeper:
-        with closing(Bench(keeper, parts, program, memory, shrinker)) as bench:
+        with closing(Bench(keeper, program, memory)) as bench:
             yield bench

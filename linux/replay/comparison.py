@@ -15,7 +15,7 @@ from ..common.counters import Counter, Counts, SizeCounter
 from ..common.files import PMD_ORDER
 from ..common.subpages import set_text
 from .expected_answers import NEVER, ExpectedAnswer
-from .states import KnownDifference, NodeState, Observation, PageObservation, PageState
+from .states import NodeState, Observation, PageObservation, PageState
 
 Lists = dict[int, list[int]]  # pages by NUMA node
 _NUMBERS = re.compile(r"\[[^]]*\]|[0-9]+(?:[-,][0-9]+)*")
@@ -36,11 +36,10 @@ class CounterDifference(Difference):
 
 class Comparison:
     """Follows a script on all nodes. `known` gathers the known differences that it met, beginning with the run's. `small`: nodes
-    whose pages aren't queued at their fault (C). `scans_exactly`: a scan makes one pass over the oldest pages. `command`: the one
-    that is compared, None before all."""
+    whose pages aren't queued at their fault (C). `command`: the one that is compared, None before all."""
 
-    def __init__(self, states: Sequence[NodeState], known: set[KnownDifference], small: set[int], scans_exactly: bool = False) -> None:
-        self._states, self._small, self._scans_exactly = states, small, scans_exactly
+    def __init__(self, states: Sequence[NodeState], known: set[str], small: set[int]) -> None:
+        self._states, self._small = states, small
         self._queues: list[list[int]] = [[] for _ in states]  # the kernel's, as they should be
         self._numa_nodes: list[dict[int, int]] = [{} for _ in states]  # of queued pages, where a node has several lists
         self._failed: dict[int, int] = Tallies()  # failed splits by order, as they should be
@@ -99,25 +98,19 @@ class Comparison:
         if stay != in_order:  # E: the kernel's order is the other way round, the program's is that of taking
             self._require_equal(f"order of putting back {in_order}, which the kernel turns around at each pass (E)", "so", stay)
         queue = [page for page in self._queues[expected.node] if page in stay]
-        rest = [page for page in self._queues[expected.node] if page not in taken]
-        self.sums["scans of a part of a queue"] += bool(rest)
         once = len(pinned) - len(stay)  # pinned underused pages leave the queue after one try
         if state.threshold == NEVER and once:
-            self.known.add(KnownDifference.D)
+            self.known.add("D")
             once = 0
-        numa_nodes, kernel_queue = self._numa_nodes[expected.node], observed.queues[expected.node] or []
-        lists = lists_of(queue, numa_nodes)
-        shown = lists_of([page for page in kernel_queue if page not in rest], numa_nodes)
+        numa_nodes = self._numa_nodes[expected.node]
+        lists, shown = lists_of(queue, numa_nodes), lists_of(observed.queues[expected.node] or [], numa_nodes)
         turned = {number: is_turned(pages, shown.get(number)) for number, pages in lists.items()}
         failed = self._failed_tries(state.order, once, lists, turned, observed.counts)
         self._failed[state.order] += once + failed
-        if queue:
-            what = "several NUMA nodes" if len(lists) > 1 else f"{failed // len(queue)} passes"
-            self.sums[f"scans of {what} with pinned pages"] += 1
         if failed > len(queue):
-            self.known.add(KnownDifference.F)
+            self.known.add("F")
         after = {number: pages if turned[number] is False else pages[::-1] for number, pages in lists.items()}
-        self._queues[expected.node] = rest + join_lists(after)
+        self._queues[expected.node] = join_lists(after)
 
     def _failed_tries(self, order: int, once: int, lists: Lists, turned: dict[int, bool | None], counts: Counts) -> int:
         """Returns how many tries of pages that stayed have failed in a scan, each list of a NUMA node with passes of its own: by
@@ -129,16 +122,11 @@ class Comparison:
         if total is None or self.counters:
             return fewest
         failed = total - self._failed[order] - once
-        if self._scans_exactly:
-            count = sum(map(len, lists.values()))
-            fits, wanted = failed == count and False not in turned.values(), str(once + count)
-        else:
-            fits = can_fail(failed, [(len(pages), turned[number]) for number, pages in lists.items()])
-            passes = {None: "pass", True: "pass, an odd number", False: "pass, an even number"}
-            each = [f"{len(pages)} for each {passes[turned[number]]}" for number, pages in lists.items()]
-            wanted = " + ".join([str(once), *each])
+        fits = can_fail(failed, [(len(pages), turned[number]) for number, pages in lists.items()])
         if not fits:
-            self._counter_differs("split_failed of a scan", failed + once, wanted)
+            passes = {None: "pass", True: "pass, an odd number", False: "pass, an even number"}
+            wanted = [str(once), *(f"{len(pages)} for each {passes[turned[number]]}" for number, pages in lists.items())]
+            self._counter_differs("split_failed of a scan", failed + once, " + ".join(wanted))
         return failed if fits else fewest
 
     def _sum(self, name: str, order: int | None = None) -> int:
@@ -154,12 +142,12 @@ class Comparison:
 
     def _note_known(self) -> None:
         if self._sum("queued", PMD_ORDER) != self._sum("first_partly", PMD_ORDER):
-            self.known.add(KnownDifference.A)
+            self.known.add("A")
         if self._sum("partly_by_split") + self._sum("perhaps_partly"):
-            self.known.add(KnownDifference.G)
+            self.known.add("G")
         for order in {state.order for state in self._states} - {PMD_ORDER}:
             if any(self._sum(name, order) for name in ("split", "failed", "queued", "split_pmd")):
-                self.known.add(KnownDifference.W)
+                self.known.add("W")
 
     def _compare_counters(self, counts: Counts) -> None:
         machine = {
@@ -182,7 +170,7 @@ class Comparison:
         if page.split:
             held, compared = page.held & ~page.dropped_zero, observed.mapped
             if held != page.held:
-                self.known.add(KnownDifference.C if node in self._small else KnownDifference.B)
+                self.known.add("C" if node in self._small else "B")
             self._require_equal(f"frames of {name}", set_text(observed.mapped), set_text(held))
         else:
             self._require_equal(f"frames of {name}", observed.whole, len(page.own))
@@ -201,9 +189,8 @@ class Comparison:
         self.sums["queues compared"] += 1
         for least in (2, 20):
             self.sums[f"queues compared, of {least} pages or more"] += len(expected_queue) >= least
-        self.sums["queues compared, of several NUMA nodes"] += len(lists_of(expected_queue, numa_nodes)) > 1
         if expected_queue != join_lists(lists_of(state.queue, numa_nodes)):
-            self.known.add(KnownDifference.E)
+            self.known.add("E")
 
 
 def lists_of(queue: Sequence[int], numa_nodes: dict[int, int]) -> Lists:

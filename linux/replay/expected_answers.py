@@ -14,16 +14,17 @@ from __future__ import annotations
 import re
 from collections.abc import Sequence
 from dataclasses import dataclass, replace
-from itertools import groupby, takewhile
+from itertools import chain, groupby
 
 from ..common.errors import InputFault
 from ..common.files import PMD_ORDER
 from ..common.journal import Event
 from ..common.program import Program
 from ..common.script import Command, Options, Script, text_of
-from .states import KnownDifference, NodeState
+from .states import NodeState
 
 NEVER = 511  # max_ptes_none at which no page is underused (mm/huge_memory.c: thp_underused)
+NOT_DONE = ("close", "take", "splitnext", "putback")  # by themselves, by any kernel
 PAGE_COMMANDS = {"mapwhole", "unmapwhole", "map", "unmap", "splitpmd", "pin", "unpin", "write", "zero"}
 INSERTED = 0  # the place of a command that only expresses D
 
@@ -63,20 +64,19 @@ class ExpectedRun:
 
     answers: list[ExpectedAnswer]
     options: Options
-    known: set[KnownDifference]  # that the run includes
+    known: set[str]  # that the run includes
     small: set[int]  # nodes whose pages aren't queued at their fault although the script's options ask for that
 
 
 def count_events(words: Sequence[str], answer: str) -> int:
     """Returns how many events a command recorded, by its answer (docs/FORMATS.md)."""
-    if answer.startswith("refused ") or words[0] == "count" or answer in ("done", "no-batch"):
+    if answer.startswith("refused ") or words[0] == "count":
         return 0
-    if words[0] in ("scan", "take", "putback"):
-        parts = answer.split()
-        numbers: dict[str, int] = dict(zip(parts[::2], map(int, parts[1::2])))
-        tried = numbers["taken"] if words[0] == "scan" else 0
-        return numbers.get("taken", 0) + tried + numbers.get("back", 0) + numbers.get("dropped", 0)
-    return 1
+    if words[0] != "scan":
+        return 1
+    parts = answer.split()
+    numbers: dict[str, int] = dict(zip(parts[::2], map(int, parts[1::2])))
+    return 2 * numbers["taken"] + numbers["back"] + numbers["dropped"]  # each page is taken, tried, and may be put back
 
 
 def read_expected_answers(commands: Sequence[Command], text: str, options: Options, program: Program) -> list[ExpectedAnswer]:
@@ -99,37 +99,35 @@ def read_expected_answers(commands: Sequence[Command], text: str, options: Optio
 
 
 def expect_run(script: Script, program: Program, unmaps_singly: bool = False) -> ExpectedRun:
-    """Returns the run of a script that the kernel should show; `unmaps_singly`: one that has P. Unsupported where workers share a
-    node; TextError where the script has an error."""
+    """Returns the run of a script that the kernel should show; `unmaps_singly`: one that has P. Unsupported where no kernel can run
+    it; TextError where the script has an error."""
     commands = own_commands = script.commands()
     owners: dict[str, int] = {}
     for command in commands:
+        if command.words[0] in NOT_DONE:
+            raise Unsupported(f"{command.words[0]}: no interface makes a kernel do only that")
         if command.section and owners.setdefault(" ".join(command.words[1:2]), command.section) != command.section:
             raise Unsupported("workers share a node: the kernel has no such schedule")
     options = script.options
-    known: set[KnownDifference] = set()
+    known: set[str] = set()
     answers = read_expected_answers(commands, script.text, options, program)
     small = {n for n, order in enumerate(options.orders) if order < PMD_ORDER and options.underused[n] is not None}
     if small:
         switches = tuple(None if n in small else switch for n, switch in enumerate(options.underused))
         options, before = replace(options, underused=switches), answers
         answers = read_expected_answers(commands, script.text, options, program)
-        if [(each.answer, each.events) for each in answers] != [(each.answer, each.events) for each in before]:
-            known.add(KnownDifference.C)
-    rules = [(KnownDifference.P, _unmap_in_parts)] if unmaps_singly else []
-    for letter, change in [*rules, (KnownDifference.D, _without_underused)]:
+        if any(a.events != b.events or a.words[0] == "count" and a.answer != b.answer for a, b in zip(answers, before)):
+            known.add("C")
+    rules = [("P", _unmap_in_parts)] if unmaps_singly else []
+    for letter, change in [*rules, ("D", _without_underused)]:
         while len(changed := change(commands, answers, options)) > len(commands):
             commands = changed
             answers = read_expected_answers(commands, text_of(commands), options, program)
             known.add(letter)
     parts = [[*group] for place, group in groupby(answers, lambda each: each.place) if place != INSERTED]
-    whole = [replace(part[-1], words=own_commands[part[0].place - 1].words, events=join_events(part)) for part in parts]
-    return ExpectedRun(fold_batches(whole), options, known, small)
-
-
-def join_events(answers: Sequence[ExpectedAnswer]) -> tuple[Event, ...]:
-    """Returns the events of several commands."""
-    return tuple(event for each in answers for event in each.events)
+    whole = [replace(part[-1], words=own_commands[part[0].place - 1].words, events=tuple(chain.from_iterable(each.events for each in part)))
+             for part in parts]
+    return ExpectedRun(whole, options, known, small)
 
 
 def _unmap_in_parts(commands: list[Command], answers: Sequence[ExpectedAnswer], options: Options) -> list[Command]:
@@ -148,46 +146,19 @@ def _unmap_in_parts(commands: list[Command], answers: Sequence[ExpectedAnswer], 
 
 
 def _without_underused(commands: list[Command], answers: Sequence[ExpectedAnswer], options: Options) -> list[Command]:
-    """Returns the commands, with one subpage written before the first one that splits or tries an underused page at 511, and zero
-    again after it (or its putback). A page that only a pin holds can't be written: the program tries it once (comparison.py)."""
+    """Returns the commands, with one subpage written before the first scan that splits or tries an underused page at 511, and zero
+    again after it. A page that only a pin holds can't be written: the program tries it once (comparison.py)."""
     states = [NodeState(order, switch, True) for order, switch in zip(options.orders, options.underused)]
     for at, each in enumerate(answers):
         state = states[each.node]
-        if state.threshold == NEVER and each.words[0] in ("scan", "take") and not each.is_refused:
+        if state.threshold == NEVER and each.words[0] == "scan":
             taken = [event.page for event in each.events if event.word == "taken" and event.page is not None]
             pages = [(number, state.pages[number]) for number in taken]
             hit = [n for n, page in pages if not page.partly and page.zero == page.every and page.used_subpages()]
             if hit:
-                node, section, end = each.words[1], commands[at].section, at + 1
-                if each.words[0] == "take":
-                    end = next((i + 1 for i in range(at, len(commands)) if [*commands[i].words] == ["putback", node]), end)
-                writes, zeros = ([Command(section, (word, node, str(page), "0", "1"), INSERTED) for page in hit]
+                writes, zeros = ([Command(commands[at].section, (word, each.words[1], str(page), "0", "1"), INSERTED) for page in hit]
                                  for word in ("write", "zero"))
-                return [*commands[:at], *writes, *commands[at:end], *zeros, *commands[end:]]
+                return [*commands[:at], *writes, commands[at], *zeros, *commands[at + 1:]]
         for event in each.events:
             state.apply(event)
     return commands
-
-
-def fold_batches(answers: list[ExpectedAnswer]) -> list[ExpectedAnswer]:
-    """Replaces each batch that is taken, tried to its end and put back without another command by the equivalent scan."""
-    out: list[ExpectedAnswer] = []
-    at = 0
-    while at < len(answers):
-        batch = answers[at:at + batch_at(answers, at)]
-        if batch and not batch[0].is_refused and any(each.answer == "done" for each in batch[1:-1]):
-            answer = f"{batch[0].answer}, tried to the end, {batch[-1].answer}"
-            out.append(ExpectedAnswer(batch[0].place, ("scan", *batch[0].words[1:3]), answer, join_events(batch)))
-            at += len(batch)
-        else:
-            out.append(answers[at])
-            at += 1
-    return out
-
-
-def batch_at(commands: Sequence[Command | ExpectedAnswer], at: int) -> int:
-    """Returns how many commands a batch has that begins here, from the `take` to the `putback`; 0 where no such batch begins."""
-    words = [[*each.words[:2]] for each in commands[at:]]
-    tries = len(list(takewhile(lambda each: each == ["splitnext", *words[0][1:]], words[1:])))
-    is_batch = words[0][0] == "take" and words[tries + 1:tries + 2] == [["putback", *words[0][1:]]]
-    return tries + 2 if is_batch else 0

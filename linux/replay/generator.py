@@ -17,7 +17,8 @@ MOST_BLOCKS = 256  # of a node
 MOST_QUEUE, MOST_ALLOCATED = 200, 250  # pages of a queue, and of a node in a script
 MOST_SUBPAGES = 12800  # of the pages in a queue: 200 pages of order 6, 25 of order 9
 MOST_SCANNED = 128  # pages of a scan (docs/FORMATS.md)
-MOST_TRIED = 32  # pages of a batch
+MOST_PINS = 3  # of a page
+PIN_SHARE, UNDERUSED_SHARE = 0.3, 0.7  # pages of a queue that are pinned; with a threshold, that are there as underused ones
 
 
 @dataclass(frozen=True)
@@ -28,14 +29,14 @@ class Shape:
     orders: Sequence[int] = (9, 9, 9, 2, 3, 4, 5, 6, 7, 8)
     thresholds: Sequence[int | None] = (None,)
     length: int = 40  # commands at most besides those that fill queues, a few more where one step is several
-    scans_parts: bool = False  # of a queue
     queues: Sequence[int] = (1, 2, 3, 4, 6, 8, 12, 16, 24, 32, 64, 200)  # pages
 
 
 @dataclass
 class Sketch:
-    """A page as the generator sees it: the sets that its PTE mappings have, so that most commands can be done."""
+    """A page as the generator sees it: its whole mappings, and the sets of its PTE mappings, so that each command can be done."""
 
+    number: int
     subpages: int
     is_queued: bool
     whole: int = 1
@@ -45,42 +46,15 @@ class Sketch:
     split: bool = False
 
     @property
-    def every(self) -> int:
-        return bits_of(0, self.subpages)
-
-    @property
-    def mapped(self) -> bool:
+    def is_mapped(self) -> bool:
         return bool(self.whole or self.parts)
-
-    def change(self, word: str) -> bool:
-        """Does a command without operands, if it can be done; returns whether."""
-        needed = {"mapwhole": self.whole and not self.split, "pin": self.mapped and self.pins < 3, "unpin": self.pins}
-        if not needed.get(word, self.whole):
-            return False
-        self.whole += {"pin": 0, "unpin": 0, "mapwhole": 1}.get(word, -1)
-        self.pins += {"pin": 1, "unpin": -1}.get(word, 0)
-        self.shared |= word == "mapwhole"
-        self.parts += [self.every] if word == "splitpmd" else []
-        self.note()
-        return True
-
-    def drop(self, part: int, bits: int) -> None:
-        """Drops PTE mappings."""
-        self.parts[part] &= ~bits
-        self.parts = [each for each in self.parts if each]
-        self.note()
-
-    def note(self) -> None:
-        """Notes that the page is queued, if it is partly mapped."""
-        is_partly = not self.whole and reduce(or_, self.parts, 0) not in (0, self.every)
-        self.is_queued = not self.split and (self.is_queued or is_partly)
 
 
 class Generator:
     """One script."""
 
     def __init__(self, chance: random.Random, shape: Shape) -> None:
-        self._chance, self._scans_parts = chance, shape.scans_parts
+        self._chance = chance
         self._nodes = chance.choice(shape.nodes)
         self._orders = [chance.choice(shape.orders) for _ in range(self._nodes)]
         self._threshold = chance.choice(shape.thresholds)
@@ -89,59 +63,65 @@ class Generator:
         self._wanted = [min(chance.choice(shape.queues), MOST_SUBPAGES >> order) for order in self._orders]
         self._pages: list[list[Sketch]] = [[] for _ in range(self._nodes)]
         self._lines: list[str] = []
-        self._length = chance.randint(8, shape.length)
-        self._node = self._number = 0
-        self._kinds: list[tuple[float, Callable[[Sketch], None]]] = [
-            (5, self._unmap_partly), (3, self._changed("splitpmd")), (5, self._unmap), (1, self._changed("unmapwhole")),
-            (1, self._changed("mapwhole")), (2, self._map), (2, self._changed("pin")), (1, self._changed("unpin")),
-            (2, partial(self._scan, False)), (0.3, partial(self._scan, True)), (1.5, partial(self._fill, "write")),
-            (0.5, partial(self._fill, "zero")), (0.5, lambda page: self._add("count", page=False)), (0.5, self._refused_command),
-        ]
+        self._length, self._node = chance.randint(8, shape.length), 0
+        self._kinds: dict[Callable[[Sketch], object], float] = {
+            self._unmap_partly: 5, self._unmap: 5, self._map: 2, self._scan: 2.5, partial(self._fill, "write"): 1.5,
+            partial(self._fill, "zero"): 0.5, lambda _: self._lines.append(f"count {self._node}"): 0.5, lambda _: self._alloc(): 4,
+        }
+        for word, weight in (("splitpmd", 3), ("unmapwhole", 2), ("mapwhole", 2), ("pin", 2), ("unpin", 1)):
+            self._kinds[partial(self._change, word)] = weight
 
     def script(self, name: str) -> Script:
         """Returns the script."""
-        weights, kinds = zip(*self._kinds)
         for step in range(-self._nodes, self._length):
             self._node = step + self._nodes if step < 0 else self._chance.randrange(self._nodes)
             missing = self._wanted[self._node] - len(self._queue())
             if missing > 0 and (step < 0 or self._chance.random() < 0.5):
                 self._lengthen_queue(missing)
-            elif self._chance.random() < 4 / (4 + sum(weights)):
+            live = [page for page in self._pages[self._node] if page.is_mapped or page.pins]
+            if not live:
                 self._alloc()
-            live = [(number, page) for number, page in enumerate(self._pages[self._node]) if page.mapped or page.pins]
-            if live and step >= 0:
-                self._number, page = self._chance.choice(live)
-                self._chance.choices(kinds, weights)[0](page)
+            elif step >= 0:
+                self._chance.choices([*self._kinds], [*self._kinds.values()])[0](self._chance.choice(live))
         blocks = 16 if max(map(len, self._pages)) <= 16 else MOST_BLOCKS
         options = Options(self._nodes, blocks, 1, tuple(self._orders), (self._threshold,) * self._nodes)
         return Script(name, "\n".join([f"{MARK}{' '.join(options.words())}", "setup", *self._lines, ""]), options)
 
     def _queue(self) -> list[Sketch]:
-        return [page for page in self._pages[self._node] if page.is_queued and (page.mapped or page.pins)]
-
-    def _alloc(self) -> Sketch | None:
-        pages = self._pages[self._node]
-        if len(pages) >= MOST_ALLOCATED:
-            return None
-        self._number = len(pages)
-        pages.append(Sketch(1 << self._orders[self._node], self._threshold is not None))
-        self._add("alloc", page=False)
-        return pages[-1]
+        return [page for page in self._pages[self._node] if page.is_queued and (page.is_mapped or page.pins)]
 
     def _lengthen_queue(self, missing: int) -> None:
         """Adds so many pages to the queue, a few of them pinned, so that scans leave them there."""
-        for _ in range(missing):
+        for _ in range(min(missing, MOST_ALLOCATED - len(self._pages[self._node]))):
             page = self._alloc()
-            if page and (self._threshold is None or self._chance.random() < 0.3):
+            if self._threshold is None or self._chance.random() > UNDERUSED_SHARE:
                 self._unmap_partly(page)
-            if page and self._chance.random() < 0.3 and page.change("pin"):
-                self._add("pin")
+            if self._chance.random() < PIN_SHARE:
+                self._change("pin", page)
 
-    def _add(self, word: str, *operands: int, page: bool = True) -> None:
-        self._lines.append(" ".join(map(str, [word, self._node, *([self._number] if page else []), *operands])))
+    def _alloc(self) -> Sketch:
+        pages = self._pages[self._node]
+        if len(pages) < MOST_ALLOCATED:
+            pages.append(Sketch(len(pages), 1 << self._orders[self._node], self._threshold is not None))
+            self._lines.append(f"alloc {self._node}")
+        return pages[-1]
 
-    def _changed(self, word: str) -> Callable[[Sketch], None]:
-        return lambda page: self._add(word) if page.change(word) else None
+    def _add(self, page: Sketch, word: str, *operands: int) -> None:
+        """Adds a command, after which the page may be queued."""
+        self._lines.append(" ".join(map(str, (word, self._node, page.number, *operands))))
+        page.parts = [part for part in page.parts if part]
+        is_partly = not page.whole and reduce(or_, page.parts, 0) not in (0, bits_of(0, page.subpages))
+        page.is_queued = not page.split and (page.is_queued or is_partly)
+
+    def _change(self, word: str, page: Sketch) -> None:
+        """Adds a command without operands, if it can be done."""
+        needed = {"mapwhole": page.whole and not page.split, "pin": page.is_mapped and page.pins < MOST_PINS, "unpin": page.pins}
+        if needed.get(word, page.whole):
+            page.whole += {"pin": 0, "unpin": 0, "mapwhole": 1}.get(word, -1)
+            page.pins += {"pin": 1, "unpin": -1}.get(word, 0)
+            page.shared |= word == "mapwhole"
+            page.parts += [bits_of(0, page.subpages)] if word == "splitpmd" else []
+            self._add(page, word)
 
     def _range(self, low: int, count: int) -> tuple[int, int]:
         """Returns a range inside the one given, often one that touches an end or has a round size."""
@@ -149,68 +129,43 @@ class Generator:
         size = chance.choice([1, count // 2 or 1, count, chance.randint(1, count)])
         return chance.choice([low, low + count - size, chance.randint(low, low + count - size)]), size
 
+    def _range_in(self, bits: int) -> tuple[int, int]:
+        """Returns a range inside a set that isn't empty."""
+        return self._range(*self._chance.choice(list(runs(bits))))
+
     def _unmap_partly(self, page: Sketch) -> None:
-        if page.whole != 1 or page.parts:
-            return
-        first, count = self._range(0, page.subpages)
-        if count == page.subpages:
-            first, count = 1, count - 1
-        page.change("splitpmd")
-        page.drop(0, bits_of(first, count))
-        self._add("splitpmd")
-        self._add("unmap", first, count)
+        if page.whole == 1 and not page.parts:
+            first, count = self._range(0, page.subpages - 1)
+            self._change("splitpmd", page)
+            page.parts[0] &= ~bits_of(first, count)
+            self._add(page, "unmap", first, count)
 
     def _unmap(self, page: Sketch) -> None:
         if page.parts:
             part = self._chance.randrange(len(page.parts))
-            first, count = self._range(*self._chance.choice(list(runs(page.parts[part]))))
-            page.drop(part, bits_of(first, count))
-            self._add("unmap", first, count)
+            first, count = self._range_in(page.parts[part])
+            page.parts[part] &= ~bits_of(first, count)
+            self._add(page, "unmap", first, count)
 
     def _map(self, page: Sketch) -> None:
-        if page.mapped:
-            place = (0, page.subpages)
-            if not page.whole:
-                place = self._chance.choice(list(runs(self._chance.choice(page.parts))))
-            first, count = self._range(*place)
+        if page.is_mapped:
+            first, count = self._range_in(bits_of(0, page.subpages) if page.whole else self._chance.choice(page.parts))
             page.parts.append(bits_of(first, count))
             page.shared = True
-            self._add("map", first, count)
+            self._add(page, "map", first, count)
 
     def _fill(self, word: str, page: Sketch) -> None:
-        if page.mapped and not page.shared:
-            place = (0, page.subpages) if page.whole else self._chance.choice(list(runs(page.parts[0])))
-            self._add(word, *self._range(*place))
+        if page.is_mapped and not page.shared:
+            self._add(page, word, *self._range_in(bits_of(0, page.subpages) if page.whole else page.parts[0]))
 
-    def _scan(self, by_batch: bool, _page: Sketch) -> None:
-        """Adds a scan, or a batch that is taken, tried to its end and put back: of the whole queue, unless parts can be scanned."""
-        queue, most = self._queue(), MOST_SCANNED
-        whole = sum(not page.split for page in self._pages[self._node])  # the queue's pages are among these
-        if self._scans_parts and not by_batch:
-            most = self._chance.choice([1, 2, 3, len(queue) // 2, MOST_SCANNED])
-        elif whole > (MOST_TRIED if by_batch else MOST_SCANNED):
+    def _scan(self, _page: Sketch) -> None:
+        """Adds a scan of the whole queue."""
+        if sum(not page.split for page in self._pages[self._node]) > MOST_SCANNED:  # the queue's pages are among these
             return
-        if by_batch:
-            self._add("take", most, page=False)
-            for _ in range(whole + 1):
-                self._add("splitnext", page=False)
-            self._add("putback", page=False)
-        else:
-            self._add("scan", most, page=False)
-        for page in queue[:most]:  # the sketch needs no more detail
+        self._lines.append(f"scan {self._node} {MOST_SCANNED}")
+        for page in self._queue():  # the sketch needs no more detail
             if not page.pins and not page.whole:
                 page.split, page.is_queued = True, False
-
-    def _refused_command(self, page: Sketch) -> None:
-        """Adds a command that is often refused."""
-        word = self._chance.choice(["unpin", "splitpmd", "unmap", "no page"])
-        if word == "unmap":
-            self._add("unmap", 0, page.subpages + 1)
-        elif word == "no page":
-            self._add("unmap", len(self._pages[self._node]), 0, 1, page=False)
-        else:
-            self._add(word)
-            page.change(word)
 
 
 def scripts(count: int, seed: int, shape: Shape) -> Iterator[Script]:

@@ -16,17 +16,14 @@ from collections.abc import Iterator, Sequence
 from itertools import chain
 
 from ..common.arguments import seconds, tool_parser, whole, wholes
-from ..common.errors import InputFault
-from ..common.files import PMD_ORDER, read_input
+from ..common.files import PMD_ORDER
 from ..common.script import LEAST_ORDER, MOST_NODES, Script, read_script
-from ..common.text import escape, text_lines
 from .generator import MOST_QUEUE, Shape, scripts
 from .shrinking import SECONDS
 
 NAME = "thpreplay"
 LEAST_LENGTH, MOST_LENGTH = 8, 10000  # commands of a random script
 MOST_SCRIPTS, MOST_SEED = 10 ** 9, 10 ** 18 - 1
-MOST_SEEDS = 1 << 18  # bytes of a fixed set
 MOST_SHRINKING = 3600.0  # seconds
 SETTINGS = ("nodes", "orders", "underused", "blocks")  # of scripts that are files
 
@@ -38,7 +35,7 @@ def parse_words(given: Sequence[str] | None = None) -> argparse.Namespace:
     parser.add_argument("--no-memory", action="store_true", help="leave kernel memory, and so the queues, unread")
     parser.add_argument("--wait", action="store_true", help="wait until another tool has ended")
     parser.add_argument("script", nargs="*",
-                        help="scripts (-: standard input); their settings are in the first line or in SCRIPT.args")
+                        help="scripts (-: standard input); their settings are in the first line")
     for name in SETTINGS:
         parser.add_argument(f"--{name}", help="as for thpsplit, for scripts that are files")
     parser.add_argument("--random", type=whole(0, MOST_SCRIPTS), default=0, metavar="COUNT",
@@ -54,19 +51,13 @@ def parse_words(given: Sequence[str] | None = None) -> argparse.Namespace:
                         help="the lengths to which queues are filled, drawn for each node")
     parser.add_argument("--length", type=whole(0, MOST_LENGTH), default=40,
                         help="most commands of a random script besides those that fill queues, at least 8")
-    parser.add_argument("--seeds", metavar="FILE", help="run a fixed set: a line a seed, with options of random scripts "
-                        "after it; # begins a comment")
     parser.add_argument("--fill", choices=("data", "zeros"), help="what new pages hold; else zeros by thresholds")
     parser.add_argument("--keep", metavar="FOLDER", help="write scripts that differ there, and the smallest of each kind")
     parser.add_argument("--shrink", type=seconds(0, MOST_SHRINKING), default=SECONDS, metavar="SECONDS",
                         help="time to make a script that differs small (60; 0: none)")
-    parser.add_argument("--store", metavar="FOLDER", help="write what the kernel showed there, a line for each look")
-    parser.add_argument("--exact-scans", action="store_true",
-                        help="scan exactly so many pages as a script specifies (SHRINKER_DEBUG); random scripts scan parts, too")
     parser.add_argument("--show", action="store_true", help="print the random scripts; nothing is run")
     parser.add_argument("--fingerprint", action="store_true",
                         help="print how this kernel does each known difference, by the scripts of linux/letters")
-    parser.add_argument("--markdown", action="store_true", help="the fingerprint as a table")
     parser.add_argument("--json", action="store_true", help="print JSON, a document a line")
     parser.add_argument("--undo", action="store_true", help="put back what a killed run left; nothing is run")
     parser.add_argument("-v", "--verbose", action="store_true", help="print each command")
@@ -78,33 +69,11 @@ def parse_words(given: Sequence[str] | None = None) -> argparse.Namespace:
 def parse_shape(options: argparse.Namespace) -> Shape:
     """Returns what random scripts are drawn from."""
     length = max(options.length, LEAST_LENGTH)
-    return Shape(options.node_counts, options.page_orders, options.thresholds, length, options.exact_scans, options.queue_lengths)
+    return Shape(options.node_counts, options.page_orders, options.thresholds, length, options.queue_lengths)
 
 
 def list_scripts(options: argparse.Namespace) -> tuple[int, Iterator[Script]]:
-    """Returns how many scripts a command line names, and the scripts, made one by one: files, seeds, then random ones."""
+    """Returns how many scripts a command line names, and the scripts: files, then random ones, which are made one by one."""
     given = [f"--{name}={getattr(options, name)}" for name in SETTINGS if getattr(options, name) is not None]
     named = [read_script(path, given) for path in options.script]
-    fixed = read_seeds(options.seeds) if options.seeds else []
-    of_seeds = (script for seed, shape in fixed for script in scripts(1, seed, shape))
-    drawn = scripts(options.random, options.seed, parse_shape(options))
-    return len(named) + len(fixed) + options.random, chain(named, of_seeds, drawn)
-
-
-def read_seeds(path: str) -> list[tuple[int, Shape]]:
-    """Returns a fixed set: the seed and the shape of each line, whose first random script is meant."""
-    try:
-        lines = text_lines(read_input(path, MOST_SEEDS).decode("ascii"))
-    except UnicodeDecodeError as error:
-        raise InputFault(f"{escape(path)} is no list of seeds: it isn't ASCII") from error
-    out = []
-    for place, line in enumerate(lines, 1):
-        words = line.partition("#")[0].split()
-        try:
-            options = parse_words(["--seed", *words]) if words else None
-        except InputFault as fault:
-            raise InputFault(f"{escape(path)}, line {place}: {fault}") from fault
-        if options and options.script:
-            raise InputFault(f"{escape(path)}, line {place}: one seed, and options of random scripts")
-        out += [(options.seed, parse_shape(options))] if options else []
-    return out
+    return len(named) + options.random, chain(named, scripts(options.random, options.seed, parse_shape(options)))

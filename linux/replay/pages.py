@@ -12,14 +12,12 @@ from ..common.files import PMD_ORDER, SWITCH
 from ..common.page_files import PageFlag
 from ..common.script import Options
 from ..common.subpages import bits_of, runs
-from .bench import Bench, ShrinkerFile
+from .bench import Bench
 from .expected_answers import PAGE_COMMANDS, ExpectedAnswer, Unsupported
 from .mappers import Mapper, Refusal
 from .states import NodeState, Observation, PageName, PageObservation, PageState
 
 DATA = 90  # the byte that subpages with data are filled with
-NOT_DONE = {"close": "close: a kernel's queue isn't closed", **dict.fromkeys(
-    ("take", "splitnext", "putback"), "take, splitnext and putback by themselves: the kernel does them as one")}
 
 
 @dataclass
@@ -30,10 +28,6 @@ class KernelPage:
     order: int
     frame: int
     shared: bool = False  # some fork has mapped it, so that a write may copy
-
-    @property
-    def subpages(self) -> int:
-        return 1 << self.order
 
     def mapper(self, fits: Callable[[Mapper], object], reason: str) -> Mapper:
         """Returns the first process that fits. Unsupported, with the reason, where there is none."""
@@ -60,12 +54,11 @@ class KernelPage:
 
 class KernelPages:
     """One script's pages on a bench, filled with the byte `fill`. `drops_zeros`: this kernel gives mapped zero-filled subpages back
-    at any split (B). `scans_exactly`: a scan takes so many pages as it specifies, in one pass."""
+    at any split (B)."""
 
     def __init__(self, bench: Bench, options: Options, fill: int) -> None:
         self._bench, self._fill = bench, fill
         self.drops_zeros = os.path.exists(SWITCH)  # both came with Linux 6.12
-        self.scans_exactly = bench.shrinker is not None
         self._pages: list[list[KernelPage]] = [[] for _ in range(options.nodes)]
         self._orders = sorted(set(options.orders))
         self._own_splits = 0
@@ -75,8 +68,6 @@ class KernelPages:
     def run_command(self, expected: ExpectedAnswer, state: NodeState) -> None:
         """Runs a command that wasn't refused; the node's state is that before it. Unsupported: nothing was done."""
         word, operands = expected.words[0], [int(text) for text in expected.words[2:]]
-        if word in NOT_DONE:
-            raise Unsupported(NOT_DONE[word])
         try:
             if word in PAGE_COMMANDS:
                 getattr(self, f"_{word}")(self._pages[expected.node][operands[0]], state.pages[operands[0]], *operands[1:])
@@ -106,14 +97,19 @@ class KernelPages:
     def _look_at(self, held: KernelPage, is_split: bool) -> PageObservation:
         whole = mapped = 0
         if not is_split:
-            head, *tails = self._bench.frames.flags(held.frame, held.subpages)
+            head, *tails = self._bench.frames.flags(held.frame, 1 << held.order)
             whole = bool(head & PageFlag.COMPOUND_HEAD) + sum(map(tails.count, {tail for tail in tails if tail & PageFlag.COMPOUND_TAIL}))
+        for mapper in held.mappers if not is_split and whole != 1 << held.order else []:
+            for first, _ in runs(mapper.mapped):
+                if mapper.frames(first, 1)[0] not in (None, held.frame + first):
+                    raise Unsupported("the kernel has moved a page: it compacts memory meanwhile")
         for mapper in held.mappers if is_split else []:
+            mapper.whole = False
             for first, count in runs(mapper.mapped):
                 found, own = mapper.frames(first, count), [*range(held.frame + first, held.frame + first + count)]
                 same = (1 << at for at, (frame, wanted) in enumerate(zip(found, own), first) if frame == wanted)
                 mapped |= bits_of(first, count) if found == own else sum(same)
-        return PageObservation(whole, self._bench.frames.counts(held.frame, held.subpages), mapped)
+        return PageObservation(whole, self._bench.frames.counts(held.frame, 1 << held.order), mapped)
 
     def _queue(self, node: int, state: NodeState, numa_nodes: dict[PageName, int]) -> list[int] | None:
         """Returns a node's queue as page numbers, by NUMA node; puts the NUMA nodes other than 0 into `numa_nodes`."""
@@ -135,9 +131,7 @@ class KernelPages:
         mapper.alloc(state.order, self._fill)
         frames = mapper.frames(0, 1 << state.order)
         first = frames[0] or 0
-        head, tail = self._bench.frames.flags(first, 2)
-        is_compound = head & PageFlag.COMPOUND_HEAD and tail & PageFlag.COMPOUND_TAIL
-        if first % len(frames) or frames != [*range(first, first + len(frames))] or not is_compound:
+        if frames != [*range(first, first + len(frames))]:
             raise Unsupported(f"no huge page of order {state.order} to be had")
         mapper.whole, mapper.mapped = True, bits_of(0, len(frames))
         self._pages[node].append(KernelPage([mapper], state.order, first))
@@ -153,7 +147,7 @@ class KernelPages:
 
     def _unmapwhole(self, page: KernelPage, _before: PageState) -> None:
         mapper = page.mapper(lambda mapper: mapper.whole, "unmapwhole where nothing maps the page whole")
-        mapper.request("unmap", 0, page.subpages)
+        mapper.request("unmap", 0, 1 << page.order)
         mapper.whole, mapper.mapped = False, 0
 
     def _map(self, page: KernelPage, _before: PageState, first: int, count: int) -> None:
@@ -212,27 +206,6 @@ class KernelPages:
         self._write(page, before, first, count, 0)
 
     def _scan(self, node: int, state: NodeState, most: int) -> None:
-        if self._bench.shrinker:
-            self._scan_exactly(self._bench.shrinker, node, state, most)
-            return
         if most < len(state.queue):
             raise Unsupported("a scan of less than the whole queue: a reclaim takes all")
         self._bench.groups.reclaim(self._bench.servers[node].path)
-
-    def _scan_exactly(self, shrinker: ShrinkerFile, node: int, state: NodeState, most: int) -> None:
-        """Scans so many pages; not where the kernel's oldest pages are others than the model's."""
-        queues = {numa_node: frames for numa_node, frames in (self._bench.queues(node) or {}).items() if frames}
-        if most < len(state.queue):
-            if len(queues) > 1:
-                raise Unsupported("a scan of a part of a queue on several NUMA nodes")
-            oldest = {self._pages[node][number].frame for number in state.queue[:most]}
-            if any({*frames[:most]} != oldest for frames in queues.values()):
-                raise Unsupported("a scan of a part of a queue whose order E has turned around: it takes other pages")
-        for numa_node, frames in queues.items():
-            if most:
-                shrinker.scan(self._bench.servers[node].path, numa_node, min(most, len(frames)))
-
-    def note_split(self, node: int, number: int) -> None:
-        """Notes that a page was split: all its mappings are by PTEs."""
-        for mapper in self._pages[node][number].mappers:
-            mapper.whole = False

@@ -15,7 +15,7 @@ from .bench import Bench
 from .comparison import Comparison, CounterDifference, Difference
 from .expected_answers import ExpectedAnswer, ExpectedRun, Unsupported, expect_run
 from .pages import DATA, KernelPages
-from .states import NodeState, Observation, join_letters
+from .states import NodeState
 
 TRIES = 3  # a difference counts where each run of the script has one
 LAST_WINDOWS = 1.0  # seconds in which the counters are watched before a difference of theirs alone counts
@@ -49,19 +49,11 @@ class Outcome:
         return f"agrees{known}" + (f", at another try after: {escape(self.text)}" if self.text else "")
 
 
-def print_line(line: str) -> None:
-    """Prints a line."""
-    print(line, flush=True)
-
-
 class Runner:
-    """Runs scripts on a bench, and compares, or only looks. `sums` counts commands and comparisons; `report` is called with each
-    command; `looks` keeps each look at the last run."""
+    """Runs scripts on a bench, and compares. `sums` counts commands and comparisons; `report` is called with each command."""
 
-    def __init__(
-        self, bench: Bench, report: Callable[[str], None] | None = None, looks: list[Observation] | None = None, compares: bool = True
-    ) -> None:
-        self._bench, self._report, self._looks, self._compares = bench, report, looks, compares
+    def __init__(self, bench: Bench, report: Callable[[str], None] | None = None) -> None:
+        self._bench, self._report = bench, report
         self.sums: Tallies[str] = Tallies()
 
     def run(self, script: Script, zero_filled: bool | None = None) -> Outcome:
@@ -72,8 +64,6 @@ class Runner:
         watch = CounterWatch(script.options.orders)
         differences: list[Difference] = []
         while len(differences) < TRIES:
-            if self._looks is not None:
-                self._looks.clear()
             if differences:
                 watch.watch_once()
             try:
@@ -103,26 +93,19 @@ class Runner:
         options = expected_run.options
         nodes = zip(options.orders, options.underused)
         states = [NodeState(order, switch, zero_filled, kernel.drops_zeros) for order, switch in nodes]
-        comparison = Comparison(states, expected_run.known, expected_run.small, kernel.scans_exactly)
+        comparison = Comparison(states, expected_run.known, expected_run.small)
         try:
-            self._look(kernel, states, comparison)
+            comparison.compare(kernel.look(states))
             for comparison.command in expected_run.answers:
                 if self._report:
-                    self._report(f"  {escape(comparison.where)} -> {escape(comparison.command.answer)}")
+                    self._report(f"{escape(comparison.where)} -> {escape(comparison.command.answer)}")
                 self._run_command(kernel, comparison, states[comparison.command.node], comparison.command)
-                self._look(kernel, states, comparison)
+                comparison.compare(kernel.look(states))
         finally:
             self.sums.update(comparison.sums)
         if comparison.counters:
             raise comparison.counters
-        return join_letters(comparison.known)
-
-    def _look(self, kernel: KernelPages, states: Sequence[NodeState], comparison: Comparison) -> None:
-        observed = kernel.look(states)
-        if self._looks is not None:
-            self._looks.append(observed)
-        if self._compares:
-            comparison.compare(observed)
+        return "".join(sorted(comparison.known))
 
     def _run_command(self, kernel: KernelPages, comparison: Comparison, state: NodeState, expected: ExpectedAnswer) -> None:
         """Runs one command, and applies its events to its node."""
@@ -133,8 +116,6 @@ class Runner:
                 state.apply(event)
             except InputFault as fault:
                 raise comparison.difference(f"thpsplit gives {fault}", "an event") from fault
-            if event.word == "split" and event.page is not None:
-                kernel.note_split(expected.node, event.page)
         self.sums["commands refused" if expected.is_refused else f"commands done: {expected.words[0]}"] += 1
 
 

@@ -14,7 +14,7 @@ from ..common.errors import RunFailed
 from ..common.machine import kernel
 from ..common.script import MARK, Command, Script, text_of
 from ..common.text import escape
-from .expected_answers import PAGE_COMMANDS, batch_at
+from .expected_answers import PAGE_COMMANDS
 from .runner import Outcome, Result
 
 SECONDS = 60.0  # that a script gets
@@ -114,16 +114,6 @@ def drop_part(script: Script) -> Iterator[Script]:
         size //= 2
 
 
-def scan_batch(script: Script) -> Iterator[Script]:
-    """A scan instead of a batch that is taken, tried and put back."""
-    commands = script.commands()
-    for first, take in enumerate(commands):
-        count = batch_at(commands, first)
-        if count:
-            scan = replace(take, words=("scan", *take.words[1:]))
-            yield make_script(script, [*commands[:first], scan, *commands[first + count:]])
-
-
 def lower_number(script: Script) -> Iterator[Script]:
     """A number that is neither a node nor a page: 0, 1, half of it, one less."""
     commands = script.commands()
@@ -136,5 +126,5 @@ def lower_number(script: Script) -> Iterator[Script]:
                     yield make_script(script, [*commands[:place], replace(command, words=words), *commands[place + 1:]])
 
 
-STEPS: Sequence[Callable[[Script], Iterator[Script]]] = (drop_part, scan_batch, lower_number)
+STEPS: Sequence[Callable[[Script], Iterator[Script]]] = (drop_part, lower_number)
 """Each yields the smaller scripts that it tries."""

@@ -4,11 +4,7 @@ node by its journal: map counts, frames, the queue, and what is counted in the m
 
 from __future__ import annotations
 
-import enum
-import json
-from collections.abc import Iterable
 from dataclasses import dataclass, field
-from itertools import groupby
 
 from ..common.counters import Counts
 from ..common.errors import InputFault
@@ -16,15 +12,6 @@ from ..common.journal import Event
 from ..common.subpages import bits_of
 
 PageName = tuple[int, int]  # node, page
-
-
-KnownDifference = enum.Enum("KnownDifference", "A B C D E F G P W")
-"""Each is worked out beforehand for each script (docs/LINUX.md); a kernel that does anything else differs."""
-
-
-def join_letters(known: Iterable[KnownDifference]) -> str:
-    """Returns the letters in order."""
-    return "".join(sorted(each.name for each in known))
 
 
 @dataclass(frozen=True)
@@ -44,19 +31,6 @@ class Observation:
     pages: dict[PageName, PageObservation]
     queues: list[list[int] | None]  # page numbers, oldest first, a frame of no page as its negative; None: it wasn't read
     numa_nodes: dict[PageName, int] = field(default_factory=dict)  # of queued pages that aren't on node 0; a queue is in their order
-
-    def line(self) -> str:
-        """Returns the look as a line of JSON."""
-        document: dict[str, object] = {
-            "machine": {key.value: value for key, value in self.counts.machine.items()},
-            "sizes": [[key.value, order, value] for (key, order), value in self.counts.sizes.items()],
-            "pages": [[*name, page.whole, [[count, len([*run])] for count, run in groupby(page.counts)], hex(page.mapped)]
-                      for name, page in self.pages.items()],
-            "queues": self.queues,
-        }
-        if self.numa_nodes:
-            document["numa_nodes"] = [[*name, numa_node] for name, numa_node in self.numa_nodes.items()]
-        return json.dumps(document)
 
 
 @dataclass

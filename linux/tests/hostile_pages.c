@@ -1,4 +1,4 @@
-/* Processes that make a look at their huge pages hard; for linux/tests/whatif_calls.py. Each prints `ready` and stays until its time is
+/* Processes that make a look at their huge pages hard; for linux/tests/hostile.py. Each prints `ready` and stays until its time is
  * over, or its parent ends. The last word is that time in seconds.
  *
  *   plain MIB SECONDS          huge pages, half of whose subpages are zero-filled
@@ -12,7 +12,7 @@
  *   moving MIB SECONDS         drops subpages of huge pages all the time
  *   noise MIB SECONDS          splits huge pages of its own, a thousand times a second (MADV_COLD on a part)
  *
- * NAME and FILE are bytes in hexadecimal; FILE lies in the working folder, and is unlinked at the end.
+ * NAME and FILE have any bytes; FILE lies in the working folder, and is unlinked at the end.
  */
 #define _GNU_SOURCE
 #include <fcntl.h>
@@ -62,6 +62,11 @@ static void drop_every_second(void) {
     for (size_t i = 0; i < size; i += 2 * BASE) madvise(at + i, BASE, MADV_DONTNEED);
 }
 
+static void free_lazily(void) {
+    unsigned char *at = map_huge(size);
+    for (size_t i = 0; i < size; i += HUGE_PAGE) madvise(at + i, i / HUGE_PAGE % 2 ? HUGE_PAGE / 2 : HUGE_PAGE, MADV_FREE);
+}
+
 static void ready(void) {
     printf("ready\n");
     fflush(stdout);
@@ -84,15 +89,6 @@ static void leave_children(long forks) {
 static void lock_areas(long areas) {
     unsigned char *at = map((size_t)areas * 2 * BASE);
     for (long i = 0; i < areas; i++) demand(!mlock(at + (size_t)i * 2 * BASE, BASE), "mlock");
-}
-
-static char *bytes_of(const char *text) {
-    char *out = calloc(1, strlen(text) / 2 + 1);
-    for (size_t i = 0; out && text[2 * i] && text[2 * i + 1]; i++) {
-        unsigned byte;
-        if (sscanf(text + 2 * i, "%2x", &byte) == 1) out[i] = (char)byte;
-    }
-    return out;
 }
 
 static void be_named(const char *name, const char *file) {
@@ -164,27 +160,18 @@ int main(int count, char **words) {
     size = (size_t)atol(words[2]) << 20;
     seconds = atol(words[count - 1]);
     prctl(PR_SET_PDEATHSIG, SIGKILL);
-    if (!strcmp(kind, "plain") || !strcmp(kind, "freed")) {
-        unsigned char *at = map_huge(size);
-        for (size_t i = 0; *kind == 'f' && i < size; i += HUGE_PAGE)
-            madvise(at + i, i / HUGE_PAGE % 2 ? HUGE_PAGE / 2 : HUGE_PAGE, MADV_FREE);
-    } else if (!strcmp(kind, "locked") || !strcmp(kind, "forks")) {
-        drop_every_second();
-        if (*kind == 'f') leave_children(number);
-        else lock_areas(number);
-    } else if (!strcmp(kind, "gone")) {
+    if (!strcmp(kind, "plain")) map_huge(size);
+    if (!strcmp(kind, "locked")) drop_every_second(), lock_areas(number);
+    if (!strcmp(kind, "forks")) drop_every_second(), leave_children(number);
+    if (!strcmp(kind, "freed")) free_lazily();
+    if (!strcmp(kind, "named")) be_named(words[2], words[3]);
+    if (!strcmp(kind, "shared")) share(number);
+    if (!strcmp(kind, "part")) give_parts_up();
+    if (!strcmp(kind, "moving")) move();
+    if (!strcmp(kind, "noise")) make_noise();
+    if (!strcmp(kind, "gone")) {
         demand(!pthread_create(&other, NULL, map_and_stay, NULL), "thread");
         pthread_exit(NULL);
-    } else if (!strcmp(kind, "named")) {
-        be_named(bytes_of(words[2]), bytes_of(words[3]));
-    } else if (!strcmp(kind, "shared")) {
-        share(number);
-    } else if (!strcmp(kind, "part")) {
-        give_parts_up();
-    } else if (!strcmp(kind, "moving")) {
-        move();
-    } else if (!strcmp(kind, "noise")) {
-        make_noise();
     }
     stay();
     return 0;

@@ -1,5 +1,7 @@
-"""A stand-in for the running kernel: it does what the model and the known differences predict, one pass a scan.
+"""Stand-ins for the running kernel: one shows stored looks, another does what the model and the known differences predict, one pass a scan.
 
+    load                a script, and what a kernel showed of it, a look at a line
+    StoredKernel        shows such looks
     InProcessProgram    the plain program without a process of its own, with an injected bug or none
     ModelKernel         shows what a correct program expects of a script
     run_on_model        a script's outcome for a program, on that kernel
@@ -7,21 +9,57 @@
 
 from __future__ import annotations
 
+import json
 from collections import Counter as Tallies
 from collections.abc import Sequence
+from pathlib import Path
 from unittest.mock import Mock
 
 from ..common.counters import Counter, Counts, SizeCounter
 from ..common.errors import InputFault
 from ..common.files import PMD_ORDER
 from ..common.program import Program
-from ..common.script import Script
+from ..common.script import Script, read_script
 from ..replay.comparison import Difference
 from ..replay.expected_answers import NEVER, ExpectedAnswer, Unsupported, expect_run
+from ..replay.pages import KernelPages
 from ..replay.runner import Outcome, Result, Runner
 from ..replay.states import NodeState, Observation, PageObservation
 from .plain_program import report_of
-from .stored_kernel import StoredKernel
+
+STORED = Path(__file__).resolve().parent / "stored"
+
+
+def parse_observation(line: str) -> Observation:
+    """Returns the look of a line."""
+    parsed = json.loads(line)
+    sizes = {(SizeCounter(key), order): value for key, order, value in parsed["sizes"]}
+    pages = {(node, page): PageObservation(whole, tuple(count for count, many in counts for _ in range(many)), int(mapped, 16))
+             for node, page, whole, counts, mapped in parsed["pages"]}
+    machine = {Counter(key): value for key, value in parsed["machine"].items()}
+    return Observation(Counts(machine, sizes), pages, parsed["queues"])
+
+
+def load(name: str) -> tuple[Script, list[Observation]]:
+    """Returns a stored script and its looks."""
+    lines = (STORED / f"{name}.looks").read_text(encoding="ascii").split("\n")[:-1]
+    return read_script(str(STORED / f"{name}.script")), [parse_observation(line) for line in lines]
+
+
+class StoredKernel(KernelPages):
+    """Looks, one for the beginning and one for each command."""
+
+    def __init__(self, looks: list[Observation]) -> None:
+        self._looks, self.drops_zeros = iter(looks), True
+
+    def run_command(self, expected: ExpectedAnswer, state: NodeState) -> None:
+        pass
+
+    def look(self, states: Sequence[NodeState]) -> Observation:
+        look = next(self._looks, None)
+        if look is None:
+            raise InputFault("the recording has fewer looks than the script has commands")
+        return look
 
 
 class InProcessProgram(Program):
@@ -61,12 +99,8 @@ class ModelKernel:
             self._queues[expected.node] = stays + [page for page in state.queue if page not in stays]
             return
         back = {event.page for event in expected.events if event.word == "back"}
-        taken = {event.page for event in expected.events if event.word == "taken"}
-        if taken != {*queue[: len(taken)]}:
-            raise Unsupported("other pages are the oldest in the kernel's queue (E)")
-        rest = [page for page in queue if page not in taken]
         queue = [page for page in queue if page in back]
-        self._queues[expected.node] = rest + queue[::-1]
+        self._queues[expected.node] = queue[::-1]
         pinned = sum(event.word == "pinned" for event in expected.events)
         self._failed[state.order] += len(queue) if state.threshold == NEVER else pinned
 
@@ -98,12 +132,12 @@ class ModelKernel:
         return Observation(Counts({**machine}, {**sizes}), pages, [list(queue) for queue in self._queues])
 
 
-def run_on_model(script: Script, program: Program, scans_exactly: bool = False) -> Outcome:
+def run_on_model(script: Script, program: Program, unmaps_singly: bool = False) -> Outcome:
     """Runs a script once, as Runner does on the running kernel."""
     zero_filled = any(switch is not None for switch in script.options.underused)
     try:
-        looks = ModelKernel(script, zero_filled).looks()
-        known = Runner(Mock()).compare_run(expect_run(script, program), zero_filled, StoredKernel(looks, scans_exactly))
+        looks = ModelKernel(script, zero_filled, unmaps_singly).looks()
+        known = Runner(Mock()).compare_run(expect_run(script, program, unmaps_singly), zero_filled, StoredKernel(looks))
     except Difference as difference:
         return Outcome(Result.DIFFERS, "", str(difference), difference.kind, difference.command)
     except (KeyError, Unsupported, InputFault) as error:  # KeyError: a page that the program alone has

@@ -1,10 +1,6 @@
-#!/usr/bin/env python3
 """Processes and control groups that hide from a look of thpwhatif, hold it up, or change under it (root).
 
-    linux/tests/root_looks.py [-k NAME]
-
-Looks are taken in this process, as `thpwhatif now` takes them, beside the programs of hostile_pages.c and attacks/fuse_holder.c. The last
-line is `N passed, M failed`; 77 without root or cc.
+Looks are taken in this process, as `thpwhatif now` takes them, beside the programs of hostile_pages.c and attacks/fuse_holder.c.
 """
 
 from __future__ import annotations
@@ -13,30 +9,23 @@ import ctypes
 import mmap
 import os
 import subprocess
-import sys
 import time
 from contextlib import ExitStack, contextmanager
 from pathlib import Path
 from typing import Iterator
 
-ROOT = Path(__file__).resolve().parent.parent.parent
-sys.path.insert(0, str(ROOT))
-sys.dont_write_bytecode = True
-
-from linux.common.errors import DONE, INCONCLUSIVE  # noqa: E402
-from linux.common.files import BASE, PMD_ORDER  # noqa: E402
-from linux.common.folios import full_set  # noqa: E402
-from linux.common.groups import find_hierarchy  # noqa: E402
-from linux.common.page_files import frames_at  # noqa: E402
-from linux.tests.root_case import main  # noqa: E402
-from linux.tests.whatif_calls import SECONDS, USER, Call, WhatifCase  # noqa: E402
-from linux.whatif.look import ProcessChoice, SnapshotTaker, names_of_groups  # noqa: E402
-from linux.whatif.snapshot import Snapshot  # noqa: E402
+from ..common.errors import DONE, INCONCLUSIVE
+from ..common.files import BASE, PMD_ORDER
+from ..common.folios import full_set
+from ..common.groups import find_hierarchy
+from ..common.page_files import frames_at
+from ..whatif.look import ProcessChoice, Snapshot, SnapshotTaker, names_of_groups
+from .cases import wait_until
+from .hostile import SECONDS, USER, HostileCase, whatif
 
 HOLDERS = 70  # processes that hold their mmap_lock: more than may wait side by side
 SHARERS, SHARED = 40, 64  # processes, MiB
 GROUPS, NAMES = 3000, 100  # control groups, readings of a name
-DEPTH, NAME = 30, "n" * 200  # nested control groups, whose path is longer than PATH_MAX
 CHURN_TIME = 6
 CHURN = """
 import os, sys
@@ -45,22 +34,11 @@ while True:
         for i in range(40):
             do(f"{sys.argv[1]}/churn{i}")
 """
-NEST = """
-import os, sys
-os.chdir(sys.argv[1])
-for _ in range(int(sys.argv[2])):
-    os.mkdir(sys.argv[3])
-    os.chdir(sys.argv[3])
-with open("cgroup.procs", "w") as file:
-    file.write(str(os.getpid()))
-os.chdir("/")
-os.execv(sys.argv[4], sys.argv[4:])
-"""
 
 
-def look(*processes: int, groups: list[str] | None = None, everything: bool = False) -> Snapshot:
+def look(*processes: int, everything: bool = False) -> Snapshot:
     """Looks once."""
-    return SnapshotTaker().take(ProcessChoice(list(processes), groups or [], everything))
+    return SnapshotTaker().take(ProcessChoice(list(processes), [], everything))
 
 
 @contextmanager
@@ -72,13 +50,11 @@ def own_group(name: str) -> Iterator[str]:
         os.chown(path, USER, USER)
         yield path
     finally:
-        until = time.monotonic() + SECONDS
-        while os.path.exists(path) and time.monotonic() < until:  # its paths are longer than Python's shutil takes
-            subprocess.run(["find", path, "-depth", "-type", "d", "-execdir", "rmdir", "{}", ";"], stderr=subprocess.DEVNULL)
-            time.sleep(0.02)
+        words = ["find", path, "-depth", "-type", "d", "-execdir", "rmdir", "{}", ";"]
+        wait_until(lambda: subprocess.run(words, stderr=subprocess.DEVNULL, check=False) and not os.path.exists(path), SECONDS)
 
 
-class Looks(WhatifCase):
+class Looks(HostileCase):
     """Each test looks beside processes or groups of its own."""
 
     def test_hang(self) -> None:
@@ -90,7 +66,7 @@ class Looks(WhatifCase):
             lasted = time.monotonic() - began
             named = [int(why.split()[1]) for why in seen.unread if "(fuse_holder): it can't be read in time" in why]
             self.assertEqual(len(named), HOLDERS // 2)
-            self.check(Call(["now", "--pid", str(named[0]), "--pid", str(other)]), INCONCLUSIVE)
+            self.check(whatif(["now", "--pid", str(named[0]), "--pid", str(other)]), INCONCLUSIVE)
             self.assertFalse(look(holder).unread)
         owners = {mapping.process for folio in seen.folios for mapping in folio.mappings}
         self.assertIn(other, owners)
@@ -101,7 +77,7 @@ class Looks(WhatifCase):
         """Frames, mappings, map counts, contents and queues of pages that forks share are the same after a look."""
         with self.pages.run("forks", 32, 2) as number:
             before = look(number)
-            self.check(Call(["now", "--pid", str(number)]), DONE)
+            self.check(whatif(["now", "--pid", str(number)]), DONE)
             self.assertEqual(look(number).folios, before.folios)
         self.assertGreaterEqual(len(before.folios), 16)
 
@@ -171,16 +147,6 @@ class Looks(WhatifCase):
         self.assertTrue(any(name.endswith(os.path.basename(group)) for name in seen.names.values()))
         self.assertLess(middle - began, (ended - middle) / 2)
 
-    def test_deep(self) -> None:
-        """A process in a control group whose path is longer than any path may be is found by the group above."""
-        with own_group("deep") as group:
-            program = [f"{self.pages.folder}/hostile_pages", "plain", "16", str(SECONDS)]
-            with self.pages.start([sys.executable, "-c", NEST, group, str(DEPTH), NAME, *program]):
-                seen = look(groups=[group])
-                self.check(Call(["now", "--cgroup", group, "--by-cgroup"]), DONE)
-        self.assertGreaterEqual(len(seen.folios), 8)
-        self.assertFalse(seen.unread)
-
     def test_content(self) -> None:
         """The zero-filled subpages of a huge page of our own, which has a byte of data at the edges of words and vectors."""
         size = 1 << PMD_ORDER
@@ -197,7 +163,3 @@ class Looks(WhatifCase):
             self.skipTest("the kernel gave no huge page: memory is in pieces")
         self.assertEqual(found[0].known, full_set(PMD_ORDER))
         self.assertEqual(found[0].zero, full_set(PMD_ORDER) & ~sum(1 << 33 * number for number in range(len(places))))
-
-
-if __name__ == "__main__":
-    main()

@@ -1,13 +1,9 @@
-#!/usr/bin/env python3
 """Twelve recordings of the running kernel, each as a script: what `thpsplit` does for it, beside what was recorded (root).
-
-    linux/tests/root_scripts.py [-k NAME]
 
 Each test records a workload, has `thpcheck --script` write the journal's script, and runs that. It passes if the script's scans split as
 many pages as the recorded ones, and give back as many frames. A line has these numbers, the events of the recording, and the pins that
 the recorder inferred; it ends in `exact` if the script's journal is the recording's, except for callers and blocks. Else the messages of
-`thpcheck` follow, and the first line that differs. The last line is `N passed, M failed`; 77 without root or the programs. A test whose
-workload isn't installed is skipped. Takes about two minutes.
+`thpcheck` follow, and the first line that differs. A test whose workload isn't installed is skipped. Takes about two minutes.
 """
 
 from __future__ import annotations
@@ -16,27 +12,18 @@ import itertools
 import re
 import shutil
 import subprocess
-import sys
-import tempfile
 import unittest
-from dataclasses import dataclass, field
 from functools import partialmethod
-from pathlib import Path
-from typing import IO, NamedTuple, Sequence, Union
+from typing import NamedTuple, Sequence
 
-ROOT = Path(__file__).resolve().parent.parent.parent
-sys.path.insert(0, str(ROOT))
+from ..common import checker, program
+from ..common.errors import DONE, SKIPPED
+from ..common.subpages import set_of, size
+from .cases import EXAMPLES, PROGRAMS, RECORD, RootCase
 
-from linux.common import checker, program  # noqa: E402
-from linux.common.errors import DONE, SKIPPED  # noqa: E402
-from linux.common.subpages import set_of, size  # noqa: E402
-from linux.tests.root_case import RootCase, main  # noqa: E402
-
-Stream = Union[int, IO[bytes]]
 JUDGE, SPLITTER = program.find("thpcheck", checker.BUILT), program.find("thpsplit", program.BUILT)
 PYTHON = "/usr/bin/python3"
 LARGE = ("env", "GLIBC_TUNABLES=glibc.malloc.hugetlb=1")
-PROGRAMS, EXAMPLES = ROOT / "linux/tests/programs", ROOT / "linux/whatif/examples"
 NUMBERS = "seq 2000000 | sort -R | sort -n -S 300M > /dev/null"
 UNDERUSED = "--underused 100 "
 JAVA = ("java", "-XX:+UseTransparentHugePages", "-Xms16m", "-Xmx600m", str(PROGRAMS / "Heap.java"), "1", "2", "10")
@@ -64,63 +51,25 @@ WORKLOADS = {
     "zeros": Workload(UNDERUSED + "--own 1,2000,3,zeros"),
     "orders_9_and_4": Workload("--order 9,4 --every 1", (PYTHON, str(PROGRAMS / "two_sizes.py"), "150", "4"), PYTHON),
     "order_4": Workload("--own 1,2000,5 --order 4"),
-    "several_groups": Workload("--own 2,1000,1 --groups 3"),
+    "three_orders": Workload("--own 2,1000,1 --order 9,5,4"),
 }
 
 
-@dataclass
-class Outcome:
-    """What a journal's scans did, and its lines without callers and blocks."""
-
-    split: int = 0
-    frames: int = 0
-    pins: int = 0
-    lines: list[str] = field(default_factory=list)
-
-    def add(self, line: str) -> None:
-        """Adds a line of the journal."""
-        words = line.split()
-        if words and words[0].isdigit():
-            self.pins += words[1] == "pin"
-            if words[1] == "split":
-                self.split, self.frames = self.split + 1, self.frames + size(set_of(words[3]))
-            words = words[1:]
-        elif words[:1] == ["node"]:
-            words = words[:2]
-        if words[:1] != ["thp-journal"]:
-            self.lines.append(" ".join(words))
-
-    def difference(self, other: Outcome) -> str:
-        """Returns the first line that differs, or nothing."""
-        pairs = itertools.zip_longest(self.lines, other.lines, fillvalue="nothing")
-        return next((f"line {at}: recorded `{a}`, script `{b}`" for at, (a, b) in enumerate(pairs, 2) if a != b), "")
+def lines_of(text: str) -> list[str]:
+    """Returns the lines of a journal, without its version, and without callers and blocks."""
+    lines = (line.split() for line in text.split("\n")[1:-1])
+    return [" ".join(words[1:] if words[0].isdigit() else words[:2]) for words in lines]
 
 
-def outcome_of(path: Path) -> Outcome:
-    """Reads a journal."""
-    out = Outcome()
-    with path.open(encoding="ascii") as file:
-        for line in file:
-            out.add(line)
-    return out
+def outcome_of(lines: list[str]) -> tuple[int, int]:
+    """Returns the pages that were split, and the frames that they gave back."""
+    given = [size(set_of(line.split()[2])) for line in lines if line.startswith("split ")]
+    return len(given), sum(given)
 
 
-def run(words: list[str], stdin: Stream = subprocess.DEVNULL, stdout: Stream = subprocess.DEVNULL) -> tuple[int, list[str]]:
-    """Runs a program; returns its status and messages."""
-    done = subprocess.run(words, stdin=stdin, stdout=stdout, stderr=subprocess.PIPE, text=True, errors="replace", check=False)
-    return done.returncode, [line for line in done.stderr.split("\n") if line]
-
-
-def repeat(path: Path, judge: str, splitter: str) -> tuple[Path, list[str]]:
-    """Runs the script of a journal; returns where its journal is, and all messages."""
-    script, again = path.with_suffix(".script"), path.with_suffix(".again")
-    with path.open("rb") as source, script.open("wb") as out:
-        _, messages = run([judge, "--script"], source, out)
-    with script.open(encoding="ascii") as text:
-        options = [line.split()[2:] for line in text if line.startswith("# thpsplit ")][-1]  # of all nodes
-    with script.open("rb") as source, again.open("wb") as out:
-        _, problems = run([splitter, *options, "--report", "journal"], source, out)
-    return again, messages + problems
+def run(words: list[str], text: str = "") -> subprocess.CompletedProcess[str]:
+    """Runs a program with a text as its input."""
+    return subprocess.run(words, input=text, capture_output=True, encoding="ascii", errors="replace", check=False)
 
 
 def printable(text: str) -> str:
@@ -130,35 +79,29 @@ def printable(text: str) -> str:
 
 @unittest.skipUnless(JUDGE and SPLITTER, "no thpcheck or thpsplit (make checker run)")
 class ScriptsTest(RootCase):
-    seconds = 600  # enough on a loaded machine
-
     def repeat_recording(self, workload: Workload) -> None:
         """Records a workload, and compares it with its script."""
         assert JUDGE and SPLITTER
         if workload.needed and not shutil.which(workload.needed):
             self.skipTest(f"no {workload.needed}")
-        command = ["--user", "root", "--", *workload.command] if workload.command else []
-        with tempfile.TemporaryDirectory(prefix="root-scripts-") as folder:
-            path = Path(folder) / "journal"
-            status, messages = run([str(ROOT / "linux/thprecord"), "--wait", "--require", "80", "--out", str(path),
-                                    *workload.options.split(), *command])
-            if status == SKIPPED:
-                self.skipTest(printable("; ".join(messages)) or "no huge page was followed")
-            self.assertEqual(status, DONE, printable("; ".join(messages)))
-            recorded = outcome_of(path)
-            found, messages = repeat(path, JUDGE, SPLITTER)
-            again = outcome_of(found)
-        difference = recorded.difference(again)
-        print(f"   {len(recorded.lines)} events, {recorded.split} split, {recorded.frames} frames; script {again.split}, {again.frames}; "
-              f"{recorded.pins} pins inferred; {'differs' if difference else 'exact'}")
-        for line in [*messages, *([difference] if difference else [])]:
+        command, path = ["--user", "root", "--", *workload.command] if workload.command else [], self.folder / "journal"
+        done = run([RECORD, "--wait", "--require", "80", "--out", str(path), *workload.options.split(), *command])
+        if done.returncode == SKIPPED:
+            self.skipTest(printable(done.stderr) or "no huge page was followed")
+        self.assertEqual(done.returncode, DONE, printable(done.stderr))
+        script = run([JUDGE, "--script"], path.read_text(encoding="ascii"))
+        options = [line.split()[2:] for line in script.stdout.split("\n") if line.startswith("# thpsplit ")][-1]  # of all nodes
+        repeated = run([SPLITTER, *options, "--report", "journal"], script.stdout)
+        recorded, again = lines_of(path.read_text(encoding="ascii")), lines_of(repeated.stdout)
+        pairs = enumerate(itertools.zip_longest(recorded, again, fillvalue="nothing"), 2)
+        differing = [f"line {at}: recorded `{one}`, script `{other}`" for at, (one, other) in pairs if one != other][:1]
+        (split, frames), pins = outcome_of(recorded), sum(line.startswith("pin ") for line in recorded)
+        print(f"   {len(recorded)} events, {split} split, {frames} frames; script {outcome_of(again)}; {pins} pins inferred; "
+              f"{'differs' if differing else 'exact'}")
+        for line in [*(script.stderr + repeated.stderr).split("\n")[:-1], *differing]:
             print(f"   {printable(line)}", flush=True)
-        self.assertEqual((recorded.split, recorded.frames), (again.split, again.frames))
+        self.assertEqual(outcome_of(recorded), outcome_of(again))
 
 
 for each, example in WORKLOADS.items():
     setattr(ScriptsTest, f"test_{each}", partialmethod(ScriptsTest.repeat_recording, example))
-
-
-if __name__ == "__main__":
-    main()

@@ -1,11 +1,8 @@
-#!/usr/bin/env python3
 """Tests of thpwhatif beside hostile processes and large memory (root).
-
-    linux/tests/root_whatif.py [-k NAME]
 
 Names with any bytes, thousands of locked areas, hundreds of forks, pages given to MADV_FREE, missing capabilities, the
 capabilities of thpwhatif.service, a PID namespace, noise beside `verify`, few descriptors, and a GiB of huge pages within a limit of
-memory. The programs are those of hostile_pages.c. The last line is `N passed, M failed`; 77 without root or cc.
+memory. The programs are those of hostile_pages.c.
 """
 
 from __future__ import annotations
@@ -15,19 +12,17 @@ import json
 import os
 import re
 import shutil
+import subprocess
 import sys
 import time
 from contextlib import ExitStack
 from pathlib import Path
 
-ROOT = Path(__file__).resolve().parent.parent.parent
-sys.path.insert(0, str(ROOT))
-sys.dont_write_bytecode = True
-
-from linux.common.errors import DONE, FAILED, INCONCLUSIVE, SKIPPED  # noqa: E402
-from linux.common.groups import find_hierarchy  # noqa: E402
-from linux.tests.root_case import main  # noqa: E402
-from linux.tests.whatif_calls import USER, Call, WhatifCase  # noqa: E402
+from ..common.errors import DONE, FAILED, INCONCLUSIVE, SKIPPED
+from ..common.groups import find_hierarchy
+from ..common.text import text_lines
+from .hostile import USER, HostileCase, whatif
+from .cases import ROOT
 
 ALL = (DONE, INCONCLUSIVE)  # statuses of a look at all processes: one may be unreadable even for root
 LONGEST_LOOK = 15  # seconds, beside 2,000 locked areas
@@ -40,9 +35,21 @@ FILES = [
     b"x\nVmFlags: lo", b"x\x0bVmFlags: lo ", b"VmFlags: lo", b"7f0000000000-7fffffffffff rw-p\n7f00-7fff",
     b"\nffff-0 x", b"\xc2\x85VmFlags: lo", b"a" * 255, b"\\012VmFlags: lo",
 ]
+KNOWN = str(ROOT / "linux/tests/looks/known.json")
+SHOW = """
+import os, re, sys
+sys.path.insert(0, sys.argv.pop(1))
+from linux.whatif import policies, program, stored
+def show(*_):
+    found = re.findall(r"^(?:CapEff|NoNewPrivs):\\s(.*)$", open("/proc/self/status").read(), re.MULTILINE)
+    print(*os.getresuid(), os.getgroups(), *found)
+    sys.exit()
+policies.RecordedJournal.repeat = stored.StoredReader.read = show
+program.main()
+"""
 
 
-class Looks(WhatifCase):
+class Looks(HostileCase):
     """Looks beside hostile processes."""
 
     def test_names(self) -> None:
@@ -52,17 +59,17 @@ class Looks(WhatifCase):
             running = set()
             for number, name in enumerate(NAMES):
                 file = FILES[number % len(FILES)].replace(b"/", b"_") + b"%d" % number
-                running.add(stack.enter_context(self.pages.run("named", name.hex(), file[-250:].hex(), user=USER)))
-            self.check(Call(["now", "--all", "--by-process", "--by-cgroup"]), *ALL)
-            self.check(Call(["snapshot", "--all", "-o", stored]), *ALL)
-            self.check(Call(["watch", "0.01", "--all", "--rounds", "2"]), *ALL)
-            lines = self.check(Call(["watch", "0.01", "--all", "--rounds", "2", "--json"]), *ALL).out.split("\n")[:-1]
+                running.add(stack.enter_context(self.pages.run("named", name, file[-250:], user=USER)))
+            self.check(whatif(["now", "--all", "--by-process", "--by-cgroup"]), *ALL)
+            self.check(whatif(["snapshot", "--all", "-o", stored]), *ALL)
+            self.check(whatif(["watch", "0.01", "--all", "--rounds", "2"]), *ALL)
+            lines = self.check(whatif(["watch", "0.01", "--all", "--rounds", "2", "--json"]), *ALL).out.split("\n")[:-1]
             self.assertEqual([json.loads(line)["look"] for line in lines], [1, 2])
             for words in (["now", "--all"], ["what-if", stored]):
-                look = self.check(Call([*words, "--by-process", "--json"]), *ALL).json()
+                look = self.check(whatif([*words, "--by-process", "--json"]), *ALL).json()
                 self.assertLessEqual(running, {share["process"] for share in look["by_process"]["off"]})
-        found = json.loads(Path(stored).read_bytes())
-        kept = [each["kept"] for each in found["folios"] if any(mapping[0] in running for mapping in each["mappings"])]
+        pages = [value for name, value in map(json.loads, text_lines(Path(stored).read_text())) if name == "folios"]
+        kept = [page["kept"] for page in pages if any(mapping[0] in running for mapping in page["mappings"])]
         self.assertEqual(kept, ["0"] * len(running), "a name passes for a locked area")
 
     def test_group(self) -> None:
@@ -71,7 +78,7 @@ class Looks(WhatifCase):
         os.mkdir(group)
         try:
             with self.pages.run("plain", 2, group=group) as number:
-                look = self.check(Call(["now", "--pid", str(number), "--by-cgroup"]), DONE)
+                look = self.check(whatif(["now", "--pid", str(number), "--by-cgroup"]), DONE)
         finally:
             time.sleep(0.1)  # until its process has left it
             os.rmdir(group)
@@ -80,15 +87,15 @@ class Looks(WhatifCase):
     def test_locked(self) -> None:
         """64 MiB of half-dropped pages beside 2,000 locked areas."""
         with self.pages.run("locked", 64, 2000) as number:
-            look = self.check(Call(["now", "--pid", str(number), "--json"]), DONE)
+            look = self.check(whatif(["now", "--pid", str(number), "--json"]), DONE)
         self.assertGreaterEqual(look.json()["rows"][0]["pages"], 32)
         self.assertLess(look.seconds, LONGEST_LOOK)
 
     def test_forks(self) -> None:
         """200 processes that map every second subpage of the same pages."""
         with self.pages.run("forks", 64, 200):
-            look = self.check(Call(["now", "--all", "--json"]), *ALL)
-            limited = self.check(Call(["now", "--all", "--json", "--memory", "2"]), INCONCLUSIVE)
+            look = self.check(whatif(["now", "--all", "--json"]), *ALL)
+            limited = self.check(whatif(["now", "--all", "--json", "--memory", "2"]), INCONCLUSIVE)
         self.assertGreaterEqual(look.json()["rows"][0]["pages"], 32)
         self.assertLess(look.peak, MOST_MEMORY)
         self.assertLess(look.seconds, LONGEST_LOOK)
@@ -97,9 +104,9 @@ class Looks(WhatifCase):
     def test_freed(self) -> None:
         """Pages given to MADV_FREE are left out, and the others are predicted exactly."""
         with self.pages.run("freed", 32) as number:
-            look = self.check(Call(["now", "--pid", str(number), "--json"]), DONE).json()
+            look = self.check(whatif(["now", "--pid", str(number), "--json"]), DONE).json()
         self.assertEqual([count for why, count in look["left_out"].items() if "MADV_FREE" in why], [8], "of 16 pages, 8 by a half")
-        tried = self.check(Call(["verify", "--rounds", "2", "--seed", "11", "--thresholds", "off,0,64,256", "--wait"]), *ALL)
+        tried = self.check(whatif(["verify", "--rounds", "2", "--seed", "11", "--thresholds", "off,0,64,256", "--wait"]), *ALL)
         self.assertRegex(tried.out, "(?m)^ *[1-9][0-9]* +of these given to MADV_FREE$")
 
     def test_memory(self) -> None:
@@ -108,7 +115,7 @@ class Looks(WhatifCase):
         if not found or int(found[1]) < 2 << 20:
             self.skipTest("less than 2 GiB of memory are available")
         with self.pages.run("plain", 1024):
-            look = self.check(Call(["now", "--all", "--by-process", "--json"]), *ALL)
+            look = self.check(whatif(["now", "--all", "--by-process", "--json"]), *ALL)
         seen, counted = look.json()["rows"][0]["pages"], look.json()["sums"]["machine"] >> 21
         self.assertGreaterEqual(seen, counted * 0.95, "of the kernel's own count")
         self.assertLess(look.peak, MOST_MEMORY)
@@ -117,7 +124,7 @@ class Looks(WhatifCase):
         """With few descriptors a look sees all, or ends with an error in one line: never `no huge pages`, and no false warning."""
         with self.pages.run("plain", 16) as number:
             for count in (8, 10, 12, 13, 14, 15, 16, 18, 20, 24, 32):
-                call = Call(["now", "--pid", str(number), "--json"], ["prlimit", f"--nofile={count}:{count}"])
+                call = whatif(["now", "--pid", str(number), "--json"], ["prlimit", f"--nofile={count}:{count}"])
                 self.check(call, DONE, FAILED, SKIPPED)
                 if call.status == DONE:
                     self.assertGreaterEqual(call.json()["rows"][0]["pages"], 8, count)
@@ -129,10 +136,10 @@ class Looks(WhatifCase):
         """Predictions that are tried while another user splits pages: none differs."""
         words = ["verify", "--rounds", "5", "--pages", "6", "--thresholds", "off,0,64,256", "--seed", "3", "--wait"]
         with self.pages.run("noise", 16, user=USER):
-            self.check(Call(words), *ALL)
+            self.check(whatif(words), *ALL)
 
 
-class Rights(WhatifCase):
+class Rights(HostileCase):
     """Capabilities and namespaces."""
 
     def setUp(self) -> None:
@@ -145,11 +152,17 @@ class Rights(WhatifCase):
         with self.pages.run("plain", 4) as own, self.pages.run("plain", 4, user=USER) as other:
             for missing, process in itertools.product(["", *names], (own, other)):
                 kept = ",".join(["-all", *(f"+{name}" for name in names if name != missing)])
-                call = Call(["now", "--pid", str(process), "--json"], ["setpriv", f"--bounding-set={kept}", "--inh-caps=-all"])
+                call = whatif(["now", "--pid", str(process), "--json"], ["setpriv", f"--bounding-set={kept}", "--inh-caps=-all"])
                 if not missing or (missing == "sys_ptrace" and call.status == DONE):  # CAP_PERFMON is enough since Linux 6.13
                     self.assertGreaterEqual(self.check(call, DONE).json()["rows"][0]["pages"], 2)
                 else:
                     self.assertIn(f"CAP_{missing.upper()}", self.check(call, SKIPPED).problems)
+
+    def test_files(self) -> None:
+        """What reads journals and stored looks is a user that nobody else has, without capabilities."""
+        for words in (["policies", str(ROOT / "examples/kernel.journal")], ["what-if", KNOWN], ["target", "5", KNOWN]):
+            done = subprocess.run([sys.executable, "-c", SHOW, str(ROOT), *words], capture_output=True, text=True, check=False)
+            self.assertRegex(done.stdout, r"^(\d{10}) \1 \1 \[\] 0{16} 1\n$", done.stderr)
 
     def test_service(self) -> None:
         """With the capabilities of thpwhatif.service alone, its command sees the pages of another user, and knows the queues."""
@@ -159,19 +172,15 @@ class Rights(WhatifCase):
         bounds = ",".join(["-all", *(f"+{name.lower()}" for name in names)])
         with self.pages.run("plain", 16, user=USER):
             before = ["setpriv", f"--bounding-set={bounds}", "--inh-caps=-all", "--no-new-privs"]
-            self.check(Call([*words[:-1], str(path)], before), *ALL)
+            self.check(whatif([*words[:-1], str(path)], before), *ALL)
         values = dict(re.findall(r"^(thpwhatif_[a-z_]+) ([0-9.]+)$", path.read_text(), re.MULTILINE))
         self.assertGreaterEqual(int(values["thpwhatif_huge_pages"]), 8)
         self.assertEqual(values["thpwhatif_queues_read"], "1")
 
     def test_namespace(self) -> None:
         """In a PID namespace the look reports that it sees only these processes, and compares no sum of the machine."""
-        look = Call(["now", "--all"], ["unshare", "--pid", "--fork", "--mount-proc"])
+        look = whatif(["now", "--all"], ["unshare", "--pid", "--fork", "--mount-proc"])
         if look.status == 1 and "unshare" in look.problems:
             self.skipTest("PID namespaces can't be made here")
         self.assertIn("PID namespace", self.check(look, *ALL).out)
         self.assertNotIn("whole machine", look.out)
-
-
-if __name__ == "__main__":
-    main()

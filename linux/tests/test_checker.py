@@ -16,16 +16,14 @@ from ..common.checker import Checker, JournalChecker, find_checker
 from ..common.errors import DIFFERS, DONE, INCONCLUSIVE, SKIPPED, InputFault, Unavailable
 from ..common.journal import journal_of, journal_text
 from ..common.program import Program
-from ..record.outputs import JournalFile
 from ..record.reasons import Doubt
 from ..record.recorder import Recording
-from ..record.report import Report
+from ..record.report import JournalFile, Report
 from ..record.scans import BATCH
 from ..record.state import MOST_BLOCKS
+from .cases import PLAIN, PLAIN_CHECKER, FolderCase
 from .written_records import JournalCase, WrittenRecords, read_recording, store_records
 
-HERE = Path(__file__).resolve().parent
-PLAIN, PLAIN_CHECKER = str(HERE / "plain_program.py"), str(HERE / "plain_checker.py")
 BUILT = programs.find("thpcheck", checkers.BUILT)
 EXPLAINING = f"#!/bin/sh\nPLAIN_EXPLAINS=1 exec {PLAIN_CHECKER} \"$@\"\n"
 JOINED = "0 unmapsub {0} 0 8 queued -"
@@ -43,8 +41,7 @@ class VerdictsTest(JournalCase):
         """Returns the status and what is printed of records."""
         builder, report = self.build(store_records(records.records)), Report(self.by, required, strict)
         with contextlib.redirect_stdout(io.StringIO()) as out, contextlib.closing(JournalFile([builder])) as journal:
-            report.add(Recording([], doubts or {}, [], "", [], None), [builder], journal)
-            return report.end(), out.getvalue()
+            return report.judge(Recording([], doubts or {}, [], "", [], None), [builder], journal), out.getvalue()
 
     def scan_part(self, taken: slice) -> WrittenRecords:
         """A scan that splits these of more pages than it may take."""
@@ -116,18 +113,15 @@ class BuiltTest(JournalCase):
         self.assertIn("\nwhy: ", found.why)
 
 
-class FoundTest(unittest.TestCase):
+class FoundTest(FolderCase):
     """Which checker is chosen; the folder is the path, and nothing is built in it."""
 
     def setUp(self) -> None:
-        made = tempfile.TemporaryDirectory()
-        self.addCleanup(made.cleanup)
-        self.folder = Path(made.name)
-        nothing = self.folder / "nothing"
+        super().setUp()
         with contextlib.ExitStack() as patches:
             for module in (checkers, programs):
-                patches.enter_context(mock.patch.object(module, "BUILT", nothing))
-            patches.enter_context(mock.patch.dict(os.environ, {"PATH": made.name}))
+                patches.enter_context(mock.patch.object(module, "BUILT", self.folder / "nothing"))
+            patches.enter_context(mock.patch.dict(os.environ, {"PATH": str(self.folder)}))
             self.addCleanup(patches.pop_all().close)
         for name in ("THPSPLIT", "THPCHECK"):
             os.environ.pop(name, None)

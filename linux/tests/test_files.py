@@ -6,9 +6,7 @@ import os
 import random
 import stat
 import subprocess
-import tempfile
 import unittest
-from pathlib import Path
 from unittest import mock
 
 from ..common import helpers, user
@@ -17,10 +15,11 @@ from ..common.errors import FAILED, USAGE, InputFault, RunFailed, Unavailable, s
 from ..common.files import NewFile, OwnFolder, read, read_input
 from ..common.groups import checked_group
 from ..common.program import start
-from ..common.text import escape, lines, text_lines
+from ..common.text import escape, text_lines
+from .cases import FolderCase
 
 ODD = ("\x0b", "\x0c", "\x1c", "\x1d", "\x1e", "\x85", "\u2028", "\u2029", "\r", "\x1b[2J", "\ud800", "\udcff", "\0")
-STATE = ("import os; print(os.getuid(), os.getgroups(), os.listdir('.'), sorted(os.environ), os.path.exists('/proc/self/fd/9'), "
+STATE = ("import os; print(os.getuid(), os.getgroups(), os.getcwd(), sorted(os.environ), os.path.exists('/proc/self/fd/9'), "
          "[each for each in open('/proc/self/status') if 'NoNewPrivs' in each])")
 
 
@@ -37,7 +36,7 @@ class TextTest(unittest.TestCase):
     def test_lines_end_at_line_feeds_alone(self) -> None:
         for odd in ODD:
             self.assertEqual(text_lines(f"a{odd}b\nc\n"), [f"a{odd}b", "c"])
-        self.assertEqual((lines(b"a\x0b\r\n\nb"), lines(b"")), ([b"a\x0b\r", b"", b"b"], []))
+        self.assertEqual((text_lines("a\x0b\r\n\nb"), text_lines("")), (["a\x0b\r", "", "b"], []))
 
     def test_numbers_are_within_limits(self) -> None:
         parser = OneLineParser(prog="x", add_help=False)
@@ -61,12 +60,7 @@ class TextTest(unittest.TestCase):
             self.assertRegex("".join(each.args[0] for each in out.write.call_args_list), rf"^tool: {internal}[ -~]*\n$")
 
 
-class FilesTest(unittest.TestCase):
-    def setUp(self) -> None:
-        made = tempfile.TemporaryDirectory()
-        self.addCleanup(made.cleanup)
-        self.folder = Path(made.name)
-
+class FilesTest(FolderCase):
     def test_a_new_file_is_its_owners_alone_and_no_other_is_written(self) -> None:
         new, target = NewFile(self.folder / "new"), self.folder / "target"
         new.close()
@@ -112,21 +106,9 @@ class FilesTest(unittest.TestCase):
             self.assertRaisesRegex(InputFault, "is no control group", checked_group, path)
 
     def test_helpers(self) -> None:
-        """What isn't built is named with how to build it; only what nobody else can write is trusted."""
+        """What isn't built is named with how to build it."""
         self.assertRaisesRegex(Unavailable, r"^nothing\.so isn't built: make -C .*linux builds it \(Debian: .*clang.*\)$",
                                helpers.helper, "nothing.so")
-        path = self.folder / "out/helper"
-        path.parent.mkdir()
-        path.write_text("")
-        self.assertEqual((helpers.is_trusted(path, True), helpers.is_trusted(path, False)), (os.geteuid() == 0, True))
-        for each in (path, path.parent):
-            was = each.stat().st_mode & 0o777
-            each.chmod(0o777)
-            self.assertFalse(helpers.is_trusted(path, False) or helpers.is_trusted(path, True))
-            each.chmod(was)
-        path.unlink()
-        path.symlink_to("/bin/true")
-        self.assertFalse(helpers.is_trusted(path, False))
 
 
 class UserTest(unittest.TestCase):
@@ -134,22 +116,18 @@ class UserTest(unittest.TestCase):
         for name in ("no-such-user", "4294967", "", "\udcff", "\0", "9" * 50):
             self.assertRaises(InputFault, user.user_for, name)
 
-    def test_programs_run_without_rights_in_an_empty_folder(self) -> None:
+    def test_programs_run_without_rights(self) -> None:
         output = start("/usr/bin/python3", ["-IS", "-c", STATE], stdout=subprocess.PIPE).communicate()[0]
-        groups, files = (os.getgroups(), os.listdir("/")) if os.geteuid() else ([], [])
-        number = user.user_without_rights().number
-        self.assertEqual(output.decode().strip(), f"{number} {groups} {files} ['LC_ALL', 'PATH'] False ['NoNewPrivs:\\t1\\n']")
+        groups, number = os.getgroups() if os.geteuid() else [], user.user_without_rights().number
+        self.assertEqual(output.decode().strip(), f"{number} {groups} / ['LC_ALL', 'PATH'] False ['NoNewPrivs:\\t1\\n']")
 
     @unittest.skipIf(os.geteuid(), "not root")
-    def test_no_account_and_no_process_has_the_number_of_a_user_without_rights(self) -> None:
-        found = user.user_without_rights()
-        self.assertIn(found.number, user.UNUSED)
-        with subprocess.Popen(["sleep", "60"], **found.rights()) as other:
-            user.user_without_rights.cache_clear()
-            numbers = iter([0, 0, 5, 0])
-            with mock.patch.object(os, "urandom", lambda _: (found.number - user.UNUSED.start + next(numbers)).to_bytes(8, "little")):
-                self.assertEqual(user.user_without_rights().number, found.number + 5)
-            other.kill()
+    def test_no_account_has_the_number_of_a_user_without_rights(self) -> None:
+        self.assertIn(user.user_without_rights().number, user.UNUSED)
+        user.user_without_rights.cache_clear()
+        with mock.patch.object(user, "has_account", side_effect=[True, False]) as asked:
+            self.assertEqual(user.user_without_rights().number, asked.call_args.args[0])
+        self.assertEqual(asked.call_count, 2)
         user.user_without_rights.cache_clear()
 
     @unittest.skipIf(os.geteuid(), "not root")

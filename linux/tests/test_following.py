@@ -74,8 +74,7 @@ class CountsTest(JournalCase):
     def drop(self, whole: int, total: int, mapped: int, *omitted: Omission) -> JournalBuilder:
         """A page of which 8 subpages are dropped, and what it counts then."""
         records = WrittenRecords("divided 1")
-        records.records[-1].values = (
-            MADVISE, PLACE, BASE * 8, DONTNEED, 0, folio_of(0), total - 1, (whole - 1) & 0xFFFFFFFF, mapped)
+        records.records[-1].values = (MADVISE, PLACE, BASE * 8, DONTNEED, 0, folio_of(0), total - 1, (whole - 1) & 0xFFFFFFFF, mapped)
         return self.check(records, "" if omitted else "unmapsub 0 0 8 queued -", *omitted)
 
     def test_counts(self) -> None:
@@ -129,8 +128,7 @@ class CopiesTest(JournalCase):
             self.check(records, "alloc 0; mapwhole 0")
 
     def test_a_copy_whose_task_ends_is_reported_before_the_end(self) -> None:
-        self.check(self.copy(5).run("d:exit > -"),
-                   "splitpmd 0; unmapsub 0 5 1 stays -; unmapsub 0 0 5 stays -; unmapsub 0 6 506 stays -")
+        self.check(self.copy(5).run("d:exit > -"), "splitpmd 0; unmapsub 0 5 1 stays -; unmapsub 0 0 5 stays -; unmapsub 0 6 506 stays -")
 
 
 class LongScansTest(JournalCase):

@@ -1,8 +1,12 @@
-"""The BPF programs and their loader without a kernel: warnings, bytes that depend on no folder, places of queues, messages."""
+"""What the tools have in C, without a kernel's rights: the BPF programs and their loader, and mapping processes."""
 
 from __future__ import annotations
 
+import errno
+import os
+import re
 import shutil
+import socket
 import subprocess
 import tempfile
 import unittest
@@ -11,24 +15,22 @@ from pathlib import Path
 from unittest import mock
 
 from ..common import kernel_library, kernel_memory, proc
+from ..common.errors import RunFailed
+from ..common.files import read
 from ..record.options import parse_size
 from ..record.recorder import Taker
+from ..replay import mappers
+from ..replay.mappers import COMMAND, REPLY, WORDS, Mapper, Refusal, socket_pair
+from .cases import ROOT
 
-KERNEL, PLACES = Path(__file__).resolve().parent.parent / "kernel", Path(__file__).with_name("queue_places.c")
+KERNEL = Path(__file__).resolve().parent.parent / "kernel"
 CO_RE = """libbpf: prog 'read_queue': BPF program load failed: Invalid argument
 0: <invalid CO-RE relocation>
 failed to resolve CO-RE relocation <byte_off> [25] struct fdtable.fd (0:0 @ offset 0)
 """
-SIZE = "struct mem_cgroup.kmemcg_id has 4 bytes in this kernel, not 8"
 
 
 class BuildTest(unittest.TestCase):
-    def run_checked(self, *words: str) -> str:
-        """Runs a program to its end, which has to be without a word on standard error; returns what it wrote."""
-        done = subprocess.run(words, capture_output=True, text=True, check=False)
-        self.assertEqual((done.returncode, done.stderr), (0, ""))
-        return done.stdout
-
     @unittest.skipUnless(shutil.which("clang") and shutil.which("bpftool"), "no clang or bpftool (make deps)")
     def test_two_folders_give_the_same_bytes_without_a_warning(self) -> None:
         with tempfile.TemporaryDirectory() as name:
@@ -36,21 +38,16 @@ class BuildTest(unittest.TestCase):
             for folder in folders:
                 shutil.copytree(KERNEL, folder / "kernel")
                 shutil.copy(KERNEL.parent / "Makefile", folder)
-                self.run_checked("make", "-s", "-C", str(folder), "out/thpkernel.so", "WARNINGS=-Wall -Wextra -Werror")
+                words = ["make", "-s", "-C", str(folder), "out/thpkernel.so", "WARNINGS=-Wall -Wextra -Werror"]
+                done = subprocess.run(words, capture_output=True, text=True, check=False)
+                self.assertEqual((done.returncode, done.stderr), (0, ""))
             self.assertEqual(*((folder / "out/thpkernel.so").read_bytes() for folder in folders))
-
-    @unittest.skipUnless(shutil.which("cc"), "no C compiler")
-    def test_queues_are_found_in_both_forms(self) -> None:
-        with tempfile.TemporaryDirectory() as name:
-            self.run_checked("cc", "-Wall", "-Wextra", "-Wno-unknown-pragmas", f"-I{KERNEL}", "-o", f"{name}/places", str(PLACES))
-            self.assertEqual(self.run_checked(f"{name}/places"), "")
 
 
 class MessageTest(unittest.TestCase):
     def test_what_is_missing_is_named_in_a_line(self) -> None:
         self.assertEqual(kernel_library.explain(CO_RE, 22), "this kernel has no fdtable.fd")
-        for line in (SIZE, "this kernel has no enumerator ___GFP_MOVABLE_BIT"):
-            self.assertEqual(kernel_library.explain(f"collapses aren't followed: ..\n{line}", 22), line)
+        self.assertIn("a field of this kernel is larger", kernel_library.explain("12: (85) call 57005\ninvalid func unknown#57005", 22))
 
     def test_rights_that_are_missing_are_named(self) -> None:
         for bits, wanted in ((0, ["CAP_BPF", "CAP_PERFMON"]), (1 << 39, ["CAP_PERFMON"]), (1 << 38, ["CAP_BPF"]), (1 << 21, [])):
@@ -81,3 +78,111 @@ class DiskTest(unittest.TestCase):
         taker.take()
         self.assertEqual([each.args[0] for each in track.take.call_args_list], [20, 20])
         self.assertTrue(taker.is_full)
+
+
+SUBPAGES, PINS = 512, 16
+
+
+@unittest.skipUnless(shutil.which("cc"), "no C compiler")
+class MapperTest(unittest.TestCase):
+    """The compiled mapper."""
+
+    path: str
+
+    @classmethod
+    def setUpClass(cls) -> None:
+        folder = tempfile.mkdtemp()
+        cls.addClassCleanup(shutil.rmtree, folder)
+        cls.path = f"{folder}/mapper"
+        words = ["cc", "-std=c11", "-O2", "-Wall", "-Wextra", "-Werror", "-o", cls.path]
+        subprocess.run([*words, str(ROOT / "linux/replay/mapper.c")], check=True)
+
+    def setUp(self) -> None:
+        self.end, its = socket_pair()
+        with its:
+            self.process = subprocess.Popen([self.path], stdin=its.fileno())
+        self.mapper = Mapper(self.end, self.process.pid)
+
+    def tearDown(self) -> None:
+        self.assertTrue(self.mapper.end())
+        self.assertEqual(self.process.wait(600), 1)
+
+    def alloc(self) -> None:
+        try:
+            self.mapper.alloc(9, ord("Z"))
+        except Refusal as refusal:
+            self.skipTest(f"no huge pages here: {refusal}")
+
+    def test_messages_that_are_no_command_are_refused(self) -> None:
+        for word in WORDS:
+            if word != "alloc":
+                with self.assertRaisesRegex(Refusal, "Invalid argument", msg=word):
+                    self.mapper.request(word, 0, 1)
+        self.alloc()
+        for message in (COMMAND.pack(len(WORDS), 0, 0, 0), COMMAND.pack(-1, 0, 0, 0)):
+            self.end.send(message)
+            self.assertEqual(self.end.recv(100), REPLY.pack(-errno.EINVAL), message)
+        self.assertRaises(Refusal, self.mapper.request, "alloc", 9)
+
+    def test_bytes_are_written_where_they_belong(self) -> None:
+        self.alloc()
+        self.mapper.request("fill", 511, 1, 1)
+        self.mapper.request("unmap", 0, 2)
+        self.assertEqual(self.mapper.frames(0, 2), [None, None])
+        try:
+            with open(f"/proc/{self.process.pid}/mem", "rb", 0) as memory:
+                content = os.pread(memory.fileno(), SUBPAGES * 4096, self.mapper.at)
+            self.assertEqual(content, bytes(2 * 4096) + b"Z" * (509 * 4096) + b"\x01" * 4096)
+        except PermissionError:
+            pass
+
+    def test_a_process_and_its_children_have_no_rights(self) -> None:
+        self.alloc()
+        child = self.mapper.fork()
+        for number in (self.process.pid, child.number):
+            rights = dict(re.findall(r"^(Cap(?:Prm|Eff|Inh|Amb)|NoNewPrivs):\s(.*)$", read(f"/proc/{number}/status"), re.MULTILINE))
+            self.assertEqual(rights, {**dict.fromkeys(("CapInh", "CapPrm", "CapEff", "CapAmb"), "0" * 16), "NoNewPrivs": "1"})
+        self.assertTrue(child.end())
+
+    def test_pins_are_limited_and_a_childs_own(self) -> None:
+        self.alloc()
+        for word, last in (("pin", "Resource temporarily unavailable"), ("unpin", "No such file")):
+            for _ in range(PINS):
+                self.mapper.request(word, 3)
+            with self.assertRaisesRegex(Refusal, last):
+                self.mapper.request(word, 3)
+        self.mapper.request("pin", 0)
+        child = self.mapper.fork()
+        with self.assertRaisesRegex(Refusal, "unpin: No such file"):
+            child.request("unpin")
+        self.assertTrue(child.end())
+
+    def test_an_end_of_the_socket_ends_a_process_alone(self) -> None:
+        self.alloc()
+        child = self.mapper.fork()
+        self.tearDown()
+        self.assertEqual(len(child.frames(0, SUBPAGES)), SUBPAGES)
+        self.assertTrue(child.end())
+        with self.assertRaises(FileNotFoundError):  # at once, or a moment later
+            while True:
+                os.stat(f"/proc/{child.number}")
+
+    def test_anything_but_a_socket_as_standard_input_ends_it(self) -> None:
+        for kind in (subprocess.DEVNULL, subprocess.PIPE):
+            with subprocess.Popen([self.path], stdin=kind) as process:
+                self.assertEqual(process.wait(600), 1)
+
+
+class RequestTest(unittest.TestCase):
+    """The tool's end."""
+
+    def test_a_process_that_ended_or_is_silent_is_named(self) -> None:
+        for patience, reason in ((9, "has ended"), (0.05, "sends no reply")):
+            mine, its = socket_pair()
+            with mock.patch.object(mappers, "PATIENCE", patience), its:
+                line = Mapper(mine)
+                if patience > 1:
+                    its.shutdown(socket.SHUT_RDWR)
+                for pattern in (reason, "failed before"):
+                    with self.assertRaisesRegex(RunFailed, pattern):
+                        line.request("pin")

@@ -1,138 +1,140 @@
-"""The scripts of the known differences, and the fingerprint, over stand-ins for kernels."""
+"""On a stand-in for the kernel: the scripts of the known differences, the fingerprint, and scripts that differ, which are made small."""
 
 from __future__ import annotations
 
-import dataclasses
 import re
 import unittest
-from collections.abc import Callable, Sequence
+from collections.abc import Sequence
+from unittest import mock
 
-from ..common.counters import Counter, Counts, SizeCounter
-from ..common.errors import Unavailable
-from ..common.script import MARK, Script
-from ..replay.expected_answers import read_expected_answers
-from ..replay.letters import MOST_RUNS, ONLY_RECORDINGS, Finding, Look, Match, find_all, find_letter, markdown, read_letters, read_look
-from ..replay.shrinking import drop
-from ..replay.states import KnownDifference, NodeState, Observation, PageObservation
-from .matrix import DOCUMENT, find_wrong
-from .model_kernel import InProcessProgram, ModelKernel
+from ..common.errors import RunFailed
+from ..common.script import MARK, Script, read_script, script_of
+from ..replay.generator import Shape, scripts
+from ..replay.letters import FOLDER, MOST_RUNS, Finding, Match, find_letter
+from ..replay.runner import Outcome, Result
+from ..replay.shrinking import Shrinker, SmallScript, drop
+from .cases import DOCUMENT, find_wrong
+from .model_kernel import InProcessProgram, run_on_model
 
-LETTERS = {each.letter: each for each in read_letters()}
+SCRIPTS = {path.stem: read_script(str(path)) for path in sorted(FOLDER.glob("[A-Z].script"))}
 ONE_PASS = "F"
 """The letter that the stand-in doesn't have: it makes one pass a scan."""
+ODD_PASSES = "E"
+"""The letter whose script has three pages, which a kernel tries an odd number of times: two would do for the stand-in."""
+
+MOST = {"unmap-short": 8, "splits-pinned": 8, "forgets-free": 8, "back-at-head": 9}
+"""The most commands of the smallest script. Two pages that are put back need nine."""
+DIFFERS = Outcome(Result.DIFFERS, "", "a", "a", 1)
 
 
-def is_zero_filled(script: Script) -> bool:
-    return any(switch is not None for switch in script.options.underused)
+def run(script: Script) -> Outcome:
+    """The outcome on a kernel with the known differences, before Linux 6.10."""
+    return run_on_model(script, InProcessProgram(), True)
 
 
-def look_at_letters(script: Script) -> Observation:
-    """A kernel with the known differences."""
-    return ModelKernel(script, is_zero_filled(script), True).looks()[-1]
-
-
-def look_at_model(script: Script) -> Observation:
-    """A kernel that does everything as the model."""
-    options = script.options
-    states = [NodeState(order, switch, is_zero_filled(script)) for order, switch in zip(options.orders, options.underused)]
-    for expected in read_expected_answers(script.commands(), script.text, options, InProcessProgram()):
-        for event in expected.events:
-            states[expected.node].apply(event)
-    names = ("split", "failed", "queued", "split_pmd", "underused")
-    machine = dict(zip(Counter, (sum(getattr(state.event_counts, name) for state in states) for name in names)))
-    sizes = {(SizeCounter.SPLIT, state.order): state.event_counts.split for state in states}
-    failed = {(SizeCounter.SPLIT_FAILED, state.order): state.event_counts.failed for state in states}
-    pages = {(node, number): PageObservation(0, page.totals(), page.held)
-             for node, state in enumerate(states) for number, page in enumerate(state.pages)}
-    return Observation(Counts({**machine}, {**sizes, **failed}), pages, [list(state.queue) for state in states])
+def shrink(text: str, outcomes: Sequence[Outcome | Exception], seconds: float = 60) -> tuple[SmallScript, int]:
+    """Returns a small script where runs end like this, and how many there were."""
+    run = mock.Mock(side_effect=outcomes)
+    small = Shrinker(run, seconds, mock.Mock(side_effect=map(float, range(1000)))).shrink(script_of("x", text), DIFFERS)
+    assert small
+    return small, run.call_count
 
 
 class LetterScriptTest(unittest.TestCase):
     def test_each_letter_of_the_document_is_known(self) -> None:
         text = DOCUMENT.read_text(encoding="utf-8").split("\n## Known differences\n")[1].split("\n## ")[0]
-        documented = re.findall(r"^\| ([A-Z]) \|", text, re.MULTILINE)
-        self.assertEqual(sorted(documented), sorted([*LETTERS, *ONLY_RECORDINGS]))
-        self.assertEqual([*LETTERS], sorted(each.name for each in KnownDifference))
+        self.assertLess({*SCRIPTS}, {*re.findall(r"^\| ([A-Z]) \|", text, re.MULTILINE)})
+        self.assertEqual([*SCRIPTS], [*"ABCDEFGPW"])
 
-    def test_both_sides_show_what_the_script_names(self) -> None:
-        for name, letter in LETTERS.items():
-            with self.subTest(name):
-                self.assertTrue(letter.script.text.startswith(MARK))
-                self.assertEqual(find_letter(letter, look_at_model), Finding(name, Match.MODEL))
-                wanted = Match.MODEL if name == ONE_PASS else Match.LETTER
-                self.assertEqual(find_letter(letter, look_at_letters), Finding(name, wanted))
+    def test_each_script_shows_its_letter(self) -> None:
+        for letter, script in SCRIPTS.items():
+            self.assertTrue(script.text.startswith(MARK))
+            self.assertEqual(find_letter(letter, script, run), Finding(letter, Match.MODEL if letter == ONE_PASS else Match.LETTER))
 
     def test_no_command_can_be_left_out(self) -> None:
-        for name, letter in LETTERS.items():
-            for at in range(len(letter.script.commands()) if name != ONE_PASS else 0):
-                smaller = dataclasses.replace(letter, script=drop(letter.script, {at}))
-                try:
-                    matches = [find_letter(smaller, look).match for look in (look_at_model, look_at_letters)]
-                except (KeyError, IndexError):
-                    continue
-                self.assertNotEqual(matches, [Match.MODEL, Match.LETTER], f"{name} without command {at + 1}")
+        for letter, script in SCRIPTS.items():
+            for at in range(len(script.commands()) if letter not in (ONE_PASS, ODD_PASSES) else 0):
+                self.assertNotIn(letter, run(drop(script, {at})).known, f"{letter} without command {at + 1}")
 
 
 class FindingTest(unittest.TestCase):
-    def test_more_than_a_number_is_the_letter(self) -> None:
-        wanted = {"1": Match.MODEL, "2": Match.LETTER, "34": Match.LETTER, "0": Match.NEITHER, "x": Match.NEITHER}
-        self.assertEqual({seen: LETTERS["F"].match(seen).match for seen in wanted}, wanted)
+    def find(self, outcomes: Sequence[Outcome]) -> str:
+        """Returns the line of a letter whose script ends like this."""
+        runs = iter(outcomes)
+        return find_letter("E", SCRIPTS["E"], lambda script: next(runs)).line()
 
-    def test_two_runs_in_a_row_decide(self) -> None:
-        look = look_at_model(LETTERS["A"].script)
+    def test_outcomes(self) -> None:
+        for outcomes, line in (
+            ([Outcome(Result.AGREES, "FE")], "E: letter"),
+            ([Outcome(Result.AGREES, "F"), Outcome(Result.AGREES, "EF")], "E: letter"),
+            ([Outcome(Result.AGREES, "F")] * MOST_RUNS, "E: model"),
+            ([Outcome(Result.DIFFERS, "", "queue of node 0, kernel [0], thpsplit [1]\n")],
+             "E: neither: queue of node 0, kernel [0], thpsplit [1]\\x0a"),
+            ([Outcome(Result.SKIPPED, "", "no pages")], "E: unseen: no pages"),
+            ([Outcome(Result.INCONCLUSIVE, "", "others")], "E: unseen: others"),
+        ):
+            self.assertEqual(self.find(outcomes), line)
 
-        def values(*numbers: int) -> Callable[[Script], Observation]:
-            looks = iter([dataclasses.replace(look, counts=Counts({**look.counts.machine, Counter.DEFERRED: number}, {}))
-                          for number in numbers])
-            return lambda _script: next(looks)
+    def test_a_script_that_agrees_without_its_letter_is_run_with_its_last_command_again(self) -> None:
+        texts: list[str] = []
 
-        for numbers, line in (((1, 1), "as the letter"), ((0, 1, 0, 0), "as the model"),
-                              ((7, 7), "neither: thp_deferred_split_page 7"), (range(MOST_RUNS), "cannot be seen here: .* other programs")):
-            with self.subTest(numbers=numbers):
-                self.assertRegex(find_letter(LETTERS["A"], values(*numbers)).line(), f"^A: {line}")
+        def note(script: Script) -> Outcome:
+            texts.append(script.text)
+            return Outcome(Result.AGREES, "E" * (len(texts) == 3))
 
-    def test_what_a_kernel_lacks_is_a_reason(self) -> None:
-        def lacks(_script: Script) -> Observation:
-            raise Unavailable("this kernel has no shrink_underused\nmore")
-
-        line = find_letter(LETTERS["A"], lacks).line()
-        self.assertEqual(line, "A: cannot be seen here: this kernel has no shrink_underused")
-
-    def test_an_even_number_of_passes_shows_no_order(self) -> None:
-        observed = look_at_letters(LETTERS["E"].script)
-        for failed, queue, text in ((6, [2, 1, 0], "2 passes"), (None, [2, 1, 0], "aren't counted"), (3, None, "can't be read")):
-            counts = Counts({Counter.SPLIT_FAILED: failed}, {})
-            with self.subTest(text), self.assertRaisesRegex(Unavailable, text):
-                read_look("queue 0 after odd passes", dataclasses.replace(observed, counts=counts, queues=[queue]))
-
-    def test_a_script_that_shows_no_order_is_run_with_its_last_command_again(self) -> None:
-        observed = look_at_letters(LETTERS["E"].script)
-
-        def look_after(passes: Sequence[int]) -> Look:
-            def look(script: Script) -> Observation:
-                failed = 3 * sum(passes[: script.text.count("scan")])
-                return dataclasses.replace(observed, counts=Counts({Counter.SPLIT_FAILED: failed}, {}))
-
-            return look
-
-        self.assertIs(find_letter(LETTERS["E"], look_after([56, 57])).match, Match.LETTER)
-        line = find_letter(LETTERS["E"], look_after([2] * MOST_RUNS)).line()
-        self.assertEqual(line, f"E: cannot be seen here: scans made {2 * MOST_RUNS} passes, an even number")
+        find_letter("E", SCRIPTS["E"], note)
+        self.assertEqual([text.count("scan 0 3") for text in texts], [1, 2, 3])
 
 
 class MatrixTest(unittest.TestCase):
     def test_another_column_of_a_kernel_is_found(self) -> None:
-        document = "text\n\n|Letter|6.1|7.3+deb|\n|-|-|-|\n|A|letter|model|\n|B|unseen|frames 1|\n\n|Letter|6.1|\n"
-        self.assertIsNone(find_wrong("|Letter|7.3+deb|\n|-|-|\n|A|model|\n|B|frames 1|\n", document))
-        self.assertIsNone(find_wrong("|Letter|8|\n|-|-|\n|A|letter|\n", document))
-        self.assertRegex(str(find_wrong("|Letter|6.1|\n|-|-|\n|A|letter|\n|B|letter|\n", document)), "another column of 6.1")
+        document = "text\n\n|Letter|6.1|7.3+deb|\n|-|-|-|\n|A|letter|model|\n|B|unseen|frames 1|\n\n"
+        self.assertIsNone(find_wrong("7.3+deb", "A: model\nB: neither: frames 1\n", document))
+        self.assertIsNone(find_wrong("8", "A: letter\n", document))
+        self.assertRegex(str(find_wrong("6.1", "A: letter\nB: letter\n", document)), "another column of 6.1")
 
-    def test_the_tool_and_the_document_have_one_form(self) -> None:
-        document = [line for line in DOCUMENT.read_text(encoding="utf-8").split("\n") if re.match(r"\|(Letter|-|[A-Z])\|", line)]
-        for lines in (markdown(find_all(look_at_letters), "6.18.44"), document):
-            columns = lines[0].count("|") - 2
-            self.assertRegex(lines[0], r"^\|Letter(\|[0-9][\w.+~-]*)+\|$")
-            self.assertEqual(lines[1], "|-" * (columns + 1) + "|")
-            for line in lines[2:]:
-                self.assertRegex(line, rf"^\|[A-Z](\|(model|letter|unseen|[a-z_]+[ -~]*)){{{columns}}}\|$")
-            self.assertEqual([line[1] for line in lines[2:]], [*LETTERS, *ONLY_RECORDINGS])
+    def test_the_document_has_each_letter(self) -> None:
+        lines = re.findall(r"^\|(?:Letter|[A-Z])\|.*", DOCUMENT.read_text(encoding="utf-8"), re.MULTILINE)
+        self.assertEqual([line.split("|")[1] for line in lines[1:]], [*SCRIPTS])
+        for line in lines[1:]:
+            self.assertRegex(line, rf"^\|[A-Z](\|(model|letter|unseen|[a-z_]+[ -~]*)){{{lines[0].count('|') - 2}}}\|$")
+
+
+class ShrinkTest(unittest.TestCase):
+    def test_the_stand_in_agrees_with_a_correct_program(self) -> None:
+        shape = Shape(orders=(3, 9), thresholds=(None, 3, 511), length=30, queues=(2, 4, 12))
+        outcomes = [run_on_model(script, InProcessProgram()) for script in scripts(20, 5, shape)]
+        self.assertEqual([each.text for each in outcomes if each.result is Result.DIFFERS], [])
+        self.assertGreater(sum(each.result is Result.AGREES for each in outcomes), 15)
+
+    def test_injected_bugs_are_found_in_five_scripts_and_need_few_commands(self) -> None:
+        for bug, most in MOST.items():
+            program = InProcessProgram(bug)
+            found = [(script, run_on_model(script, program)) for script in scripts(5, 3, Shape(nodes=(1, 2), orders=(3, 4), queues=(2, 4)))]
+            script, outcome = next(each for each in found if each[1].result is Result.DIFFERS)
+            small = Shrinker(lambda each, program=program: run_on_model(each, program)).shrink(script, outcome)  # type: ignore[misc]
+            assert small
+            with self.subTest(bug):
+                self.assertLessEqual(len(small.script.commands()), most, small.text())
+                again = run_on_model(small.script, program)
+                self.assertEqual((again.result, again.kind), (Result.DIFFERS, small.outcome.kind))
+                self.assertIs(run_on_model(small.script, InProcessProgram()).result, Result.AGREES)
+                self.assertRegex(small.text(), "^# thpsplit .*\n# Linux .*\n# differs: .*\nsetup\n")
+
+    def test_only_the_first_of_a_kind_is_made_small(self) -> None:
+        script, run = script_of("x", "setup\nalloc 0\ncount 0\n"), mock.Mock(return_value=DIFFERS)
+        shrinker = Shrinker(run)
+        small = shrinker.shrink(script, DIFFERS)
+        self.assertEqual(small and len(small.script.commands()), 1)
+        self.assertIsNone(shrinker.shrink(script, DIFFERS))
+        self.assertIsNone(shrinker.shrink(script, Outcome(Result.AGREES)))
+        self.assertIsNone(Shrinker(run, 0).shrink(script, DIFFERS))
+
+    def test_time_and_a_run_that_fails_end_it(self) -> None:
+        self.assertLess(shrink("setup\n" + "alloc 0\n" * 40, [Outcome(Result.AGREES)] * 99, 10)[1], 12)
+        small, runs = shrink("setup\n" + "alloc 0\n" * 4, [DIFFERS, RunFailed("a mapping process has ended")])
+        self.assertEqual((len(small.script.commands()), small.runs, runs), (2, 2, 2))
+
+    def test_a_page_goes_with_its_commands(self) -> None:
+        script = script_of("x", "setup\nalloc 0\nalloc 0\npin 0 0\npin 0 1\nscan 0 8\n")
+        self.assertEqual([" ".join(command.words) for command in drop(script, {0}).commands()], ["alloc 0", "pin 0 0", "scan 0 8"])

@@ -8,14 +8,13 @@ import os
 import signal
 import subprocess
 import sys
-import time
 import unittest
 from array import array
 from collections import Counter, deque
 from typing import Any
 from unittest import mock
 
-from ..common import proc, spaces, workers
+from ..common import proc, spaces
 from ..common.errors import Unavailable
 from ..common.files import BASE
 from ..common.folios import Folio
@@ -23,6 +22,7 @@ from ..common.kernel_memory import KernelMemory
 from ..common.reader import Reader, Spans
 from ..common.second_look import SecondLook
 from ..common.workers import WALK, Answer, Request, Workers
+from .cases import descendants, wait_until
 
 HUGE = 1 << 21
 
@@ -93,45 +93,25 @@ class WaitingTest(unittest.TestCase):
     def test_workers_that_are_stopped_or_killed_are_replaced(self) -> None:
         self.assertEqual(self.answered(5), {True: 5})
         for sent in (signal.SIGSTOP, signal.SIGKILL):
-            workers = children()
+            workers = descendants(os.getpid())
             for process in workers:
                 signal.pidfd_send_signal(os.pidfd_open(process), sent)
             found = self.answered(6)
             self.assertEqual((found[False] <= len(workers), found[False] + found[True]), (True, 6))
             self.assertEqual(self.answered(3), {True: 3})
-        until = time.monotonic() + 30
-        while children() and time.monotonic() < until:
-            self.workers.close()
-        self.assertEqual(children(), [])
-
-    def test_a_worker_that_runs_may_go_on_for_a_while(self) -> None:
-        self.answered(1)
-        worker = self.workers._idle[0]
-        worker.limit = 2.0
-        worker.begin(Request(1 << 30, WALK), False, 1)
-        begun = worker.until - 2
-        for state, now, may_go_on in ((b"R", 2.1, True), (b"D", 4.2, False), (b"T", 6.0, False), (b"R", 6.0, True), (b"R", 13.0, False)):
-            with mock.patch.object(workers, "read_bytes", return_value=b"7 (a) b) " + state + b" 1 1"):
-                self.assertEqual(worker.may_go_on(begun + now), may_go_on, now)
+        self.workers.close()
+        self.assertTrue(wait_until(lambda: not descendants(os.getpid()), 30))
 
     def test_workers_end_with_the_tool(self) -> None:
         code = "import os,time; from linux.common.kernel_memory import KernelMemory; from linux.common.reader import Reader;" \
-               "r=Reader(KernelMemory(), threads=2); r.read_processes([os.getpid()]);" \
-               "print(*open(f'/proc/self/task/{os.getpid()}/children').read().split(), flush=True); time.sleep(60)"
-        with subprocess.Popen([sys.executable, "-c", code], stdout=subprocess.PIPE, text=True) as tool:
+               "r=Reader(KernelMemory(), threads=2); r.read_processes([os.getpid()]); print(flush=True); time.sleep(60)"
+        with subprocess.Popen([sys.executable, "-c", code], stdout=subprocess.PIPE) as tool:
             assert tool.stdout
-            found = tool.stdout.readline().split()
+            tool.stdout.readline()
+            found = descendants(tool.pid)
             tool.kill()
-        until = time.monotonic() + 30
-        while any(os.path.exists(f"/proc/{each}") for each in found) and time.monotonic() < until:
-            time.sleep(0.01)
-        self.assertTrue(found and not any(os.path.exists(f"/proc/{each}") for each in found))
-
-
-def children() -> list[int]:
-    """Our own children."""
-    with open(f"/proc/self/task/{os.getpid()}/children", encoding="ascii") as file:
-        return [int(number) for number in file.read().split()]
+        gone = wait_until(lambda: not any(os.path.exists(f"/proc/{each}") for each in found), 30)
+        self.assertTrue(found and gone)
 
 
 class SpacesTest(unittest.TestCase):

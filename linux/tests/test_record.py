@@ -1,41 +1,74 @@
-"""Journals of written records: pages and scans; and of stored recordings of a kernel."""
+"""Journals of written records: pages and scans; of stored recordings of a kernel; and on disk, in bounded memory."""
 
 from __future__ import annotations
 
+import subprocess
+import sys
 import unittest
+from collections.abc import Sequence
+from contextlib import closing
+from unittest import mock
 
 from ..common.journal import journal_text
+from ..record import scratch
+from ..record.journal_builder import JournalBuilder
 from ..record.reasons import Count, Omission, Reason
 from ..record.records import QUEUE_MOST, Kind, parse_record
+from ..record.report import JournalFile
 from ..record.scans import batches_of
+from .cases import ROOT
 from .written_records import JournalCase, WrittenRecords, folio_of, pack_record, read_recording, store_records, words_of
 
 PARTLY = "alloc 0; splitpmd 0; unmapsub 0 0 8 queued -"  # of a page that is divided
 GONE = "alloc 0; unmapwhole 0 freed 0-511"
+GROWTH = 12 << 10  # KiB that a builder and a store may take, however many records there are
+LONG = """
+import resource, sys
+sys.path.insert(0, sys.argv[1])
+from linux.record.journal_builder import JournalBuilder
+from linux.record.records import Store
+from linux.tests.written_records import WrittenRecords, pack_record
+def resident():
+    return resource.getrusage(resource.RUSAGE_SELF).ru_maxrss
+store, builder, before = Store(), JournalBuilder(9, None), resident()
+for number in range(int(sys.argv[2])):
+    for record in WrittenRecords("page 0; drop 0 0 8 > 0; d:free 5 0 8; unmap 0 > -").records:
+        record.time += 1000 * number
+        store.add(pack_record(record))
+store.link()
+builder.add_records(store.records())
+print(store.count, sum(1 for line in builder.texts()), builder.left_out, resident() - before)
+"""
+
+
+class RowsTest(JournalCase):
+    def test_rows(self) -> None:
+        """Of each: what happens, the records, the last events, why pages are left out, and the threshold of underused pages."""
+        two = "page 0; page 1; drop 0 0 8 > 0"
+        rows: list[tuple[str, str, str, Sequence[Omission], int | None]] = [
+            ("a page is divided and split", "divided 1; d:begin > 0; free 0 0 8; d:end > -", f"{PARTLY}; taken 0; split 0 0-7", (), None),
+            ("a page is freed before its unmap's end", "page 0; unmap 0 > -", GONE, (), None),
+            ("two address spaces in turn at one place", "page 0; free 0; d:exit > -; page 0; free 0; d:exit > -",
+             f"{GONE}; alloc 1; unmapwhole 1 freed 0-511", (), None),
+            ("a second page in one place is freed in its own fault", "page 0; o:page 0 1; o:free 1; drop 0 0 8 > 0", PARTLY, (), None),
+            ("a page joins unseen", f"{two}; look > 1 0", PARTLY, [Omission.UNKNOWN_JOIN], None),
+            ("a page goes unseen", f"{two}; look > -", "alloc 0", [Omission.UNSEEN_COLLAPSE], None),
+            ("a page joins at its fault after a pinned one is put back", "divided 1; d:begin > 0; page 1; look > 0 1; d:end > 0 1",
+             "alloc 1", (), 100),
+            ("a page joins before a scan takes", f"{two}; d:begin 2 1 > 0; drop 1 0 8 > -; d:free 0 0 8; d:free 1 0 8; d:end > -",
+             "taken 0; taken 1; split 0 0-7; split 1 0-7", (), None),
+            ("a page joins before the next copy", "divided 2; page 2; d:begin > 0 1; d:end; drop 2 0 8 > 1 0 2",
+             "back 1; splitpmd 2; unmapsub 2 0 8 queued -", (), None),
+            ("a subpage stays after the split", "divided 1; d:begin > 0; d:free 0 0 7; d:end > -", "", [Omission.HELD_BEYOND_SPLIT], None),
+            ("a page was written", "page 0; look > 0; d:begin > 0; d:free 0 490 22; d:end > -", "", [Omission.WRITTEN], 100),
+            ("a page was locked", "page 0; look > 0; d:begin > 0; d:end > 0", "", [Omission.LOCKED], 100),
+        ]
+        for what, records, wanted, omitted, threshold in rows:
+            with self.subTest(what):
+                self.check(records, wanted, *omitted, threshold=threshold)
 
 
 class PagesTest(JournalCase):
-    def test_a_page_divided_and_split(self) -> None:
-        self.check("divided 1; d:begin > 0; free 0 0 8; d:end > -", f"{PARTLY}; taken 0; split 0 0-7")
-
-    def test_a_page_unmapped_whole(self) -> None:
-        """It is freed while its mapping still exists: the event comes at the call's end."""
-        self.check("page 0; unmap 0 > -", GONE)
-
-    def test_a_page_that_its_process_leaves_at_its_end(self) -> None:
-        """Two address spaces in turn at one place: each gets its own end."""
-        one = "page 0; free 0; d:exit > -"
-        self.check(f"{one}; {one}", f"{GONE}; alloc 1; unmapwhole 1 freed 0-511")
-
-    def test_a_page_that_another_thread_mapped_first_is_none(self) -> None:
-        """Two threads fault in one place; the page of the one that comes late is freed in its own fault."""
-        self.assertEqual(self.check("page 0; o:page 0 1; o:free 1; drop 0 0 8 > 0", PARTLY).pages, 1)
-
-    def test_a_queue_that_is_not_the_journals(self) -> None:
-        pages = "page 0; page 1; drop 0 0 8 > 0"
-        self.check(f"{pages}; look > 1 0", PARTLY, Omission.UNKNOWN_JOIN)
-        self.check(f"{pages}; look > -", "alloc 0", Omission.UNSEEN_COLLAPSE)  # of the other page
-
     def test_queues_that_differ_are_counted(self) -> None:
         """A page joins before another one, which a scan has put back; the order of two changes."""
         for steps in ("page 2; drop 2 0 8 > 2 1 0", "look > 0 1"):
@@ -74,19 +107,9 @@ class ScansTest(JournalCase):
         self.assertEqual(self.check("divided 1; d:begin > 0; d:free 0 0 16; d:end > -", "split 0 0-7").tallies[Count.ZEROS_BACK], 1)
 
     def test_batches(self) -> None:
-        rows = {
-            (10, 10): [(0, 10)], (4, 166): [], (300, 300): [(0, 128), (128, 128)], (200, 150): [(0, 128)], (0, 0): [],
-        }
+        rows = {(10, 10): [(0, 10)], (4, 166): [], (300, 300): [(0, 128), (128, 128)], (200, 150): [(0, 128)], (0, 0): []}
         for (total, freeable), wanted in rows.items():
             self.assertEqual(list(batches_of(total, freeable)), wanted)
-
-    def test_a_page_that_joins_while_a_scan_runs_follows_it(self) -> None:
-        """The scan puts a pinned page back; meanwhile another joins at its fault, after it."""
-        self.check("divided 1; d:begin > 0; page 1; look > 0 1; d:end > 0 1", "back 0; alloc 1", threshold=100)
-
-    def test_a_page_that_joins_before_a_scan_takes_is_taken(self) -> None:
-        self.check("page 0; page 1; drop 0 0 8 > 0; d:begin 2 1 > 0; drop 1 0 8 > -; d:free 0 0 8; d:free 1 0 8; d:end > -",
-                   "taken 0; taken 1; split 0 0-7; split 1 0-7")
 
     def test_a_page_freed_while_a_scan_runs_precedes_it(self) -> None:
         records = WrittenRecords("divided 2; d:begin > 0 1; unmap 0 > 1")
@@ -94,18 +117,10 @@ class ScansTest(JournalCase):
         records.run("d:end > 1").records.append(end)
         self.check(records, "unmapsub 0 8 504 freed 0-511; taken 1; pin 1; pinned 1; back 1")
 
-    def test_pages_that_are_left_out(self) -> None:
-        self.check("divided 1; d:begin > 0; d:free 0 0 7; d:end > -", "", Omission.HELD_BEYOND_SPLIT)
-        for end, why in (("d:free 0 490 22; d:end > -", Omission.WRITTEN), ("d:end > 0", Omission.LOCKED)):
-            self.check(f"page 0; look > 0; d:begin > 0; {end}", "", why, threshold=100)
-
     def test_copies_that_no_scan_has(self) -> None:
         """The next copy shows its end, or the journal's queue its start."""
         for scan in ("d:begin > 0 1; d:end", "d:begin 2 2; d:end > 1 0"):
             self.assertEqual(self.check(f"divided 2; {scan}; look > 1 0", "back 0; back 1").tallies[Count.SCANS], 1)
-
-    def test_a_page_that_joins_before_the_next_copy(self) -> None:
-        self.check("divided 2; page 2; d:begin > 0 1; d:end; drop 2 0 8 > 1 0 2", "back 1; splitpmd 2; unmapsub 2 0 8 queued -")
 
 
 class RecordsTest(unittest.TestCase):
@@ -137,3 +152,41 @@ class StoredTest(JournalCase):
                 self.assertEqual({each: builder.tallies[each] for each in tallies}, tallies)
                 self.assertEqual(builder.tallies[Count.MAP_COUNTS_DIFFER], 0)
                 self.assertGreater(len(words_of(builder)), 30)
+
+
+class LinesTest(JournalCase):
+    def build_in_window(self, name: str, window: int) -> JournalBuilder:
+        with mock.patch.object(scratch, "WINDOW", window), mock.patch.object(scratch, "SLACK", 10):
+            return self.build(read_recording(name))
+
+    def test_a_small_window_gives_the_same_journal(self) -> None:
+        for name in ("one_thread", "areas", "collapses"):
+            whole, small = self.build(read_recording(name)), self.build_in_window(name, 60)
+            self.assertEqual(journal_text([small]), journal_text([whole]), name)
+            self.assertEqual((small.tallies, small.left_out), (whole.tallies, whole.left_out))
+            self.assertGreater(small.lines.final, 100)
+
+    def test_a_page_that_joined_too_long_ago_is_left_out(self) -> None:
+        """Pages 0 and 1 are in another order in the kernel's queue than in the journal; their lines are final."""
+        others = "; ".join(f"page {number}" for number in range(2, 40))
+        records = f"page 0; page 1; drop 0 0 8; drop 1 0 8; {others}; look > 1 0"
+        with mock.patch.object(scratch, "WINDOW", 10), mock.patch.object(scratch, "SLACK", 5):
+            self.check(records, "alloc 37", Omission.TOO_OLD)  # of 38 pages
+
+    def test_a_journal_as_a_file(self) -> None:
+        builder = self.build_in_window("one_thread", 40)
+        text = journal_text([builder])
+        with closing(JournalFile([builder])) as journal:
+            self.assertEqual(b"".join(journal.pieces()).decode(), text)
+            self.assertEqual([journal.line(3), journal.line(10 ** 9)], [text.split("\n")[2], ""])
+            self.assertEqual((journal.size, journal.events), (len(text), text.count("\n") - 3))
+
+
+class MemoryTest(JournalCase):
+    def test_many_records_in_little_memory(self) -> None:
+        pages = 10000
+        words = [sys.executable, "-c", LONG, str(ROOT), str(pages)]
+        done = subprocess.run(words, capture_output=True, text=True, check=True)
+        records, count, left_out, growth = map(int, done.stdout.split())
+        self.assertEqual((records, count, left_out), (15 * pages, 4 * pages, 0))
+        self.assertLess(growth, GROWTH)

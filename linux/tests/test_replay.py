@@ -3,12 +3,10 @@
 from __future__ import annotations
 
 import dataclasses
-import random
 import tempfile
 import unittest
 from collections.abc import Callable, Sequence
 from functools import partial
-from pathlib import Path
 from typing import Any
 from unittest import mock
 
@@ -16,18 +14,14 @@ from ..common.counters import Counter, CounterWatch, Counts, SizeCounter
 from ..common.errors import InputFault
 from ..common.journal import Event
 from ..common.program import Program, TextError
-from ..common.script import Script, read_script, script_of
-from ..replay.comparison import CounterDifference, Difference
-from ..replay.expected_answers import ExpectedRun, Unsupported, expect_run
+from ..common.script import Script, script_of
+from ..replay.comparison import Comparison, CounterDifference, Difference, can_fail, join_lists, lists_of
+from ..replay.expected_answers import ExpectedAnswer, ExpectedRun, Unsupported, expect_run
 from ..replay.generator import Shape, scripts
-from ..replay.options import parse_shape, parse_words
 from ..replay.runner import Result, Runner, judge_tries
-from ..replay.states import KnownDifference, NodeState, Observation
-from .model_kernel import InProcessProgram
+from ..replay.states import NodeState, Observation, PageObservation
+from .model_kernel import InProcessProgram, StoredKernel, load
 from .plain_program import inject_bug
-from .stored_kernel import StoredKernel, load, parse_observation
-
-PLAIN = str(Path(__file__).resolve().parent / "plain_program.py")
 
 
 def replay(script: Script, looks: list[Observation], program: Program | None = None) -> str:
@@ -68,8 +62,6 @@ class StoredTest(unittest.TestCase):
         for name, letters in wanted.items():
             with self.subTest(name):
                 self.assertEqual(replay(*load(name)), letters)
-                for look in load(name)[1]:
-                    self.assertEqual(parse_observation(look.line()), look)
 
     def test_each_thing_compared_is_reported_by_name(self) -> None:
         cases: list[tuple[str, int, Callable[[Observation], Observation], str]] = [
@@ -185,7 +177,7 @@ class ExpectedRunTest(unittest.TestCase):
         ):
             with self.subTest(letter):
                 found = self.expect(text, True)
-                self.assertEqual((found.known, found.answers[at].answer), ({KnownDifference[letter]}, answer))
+                self.assertEqual((found.known, found.answers[at].answer), ({letter}, answer))
                 self.assertEqual([said.place for said in found.answers], [*range(1, len(found.answers) + 1)])
 
     def test_an_unmap_of_all_mappings_is_one_command_with_the_events_of_two(self) -> None:
@@ -197,11 +189,6 @@ class ExpectedRunTest(unittest.TestCase):
 
     def test_a_page_that_only_a_pin_holds_ends_too(self) -> None:
         self.expect("# thpsplit --underused 511\nsetup\nalloc 0\npin 0 0\nunmapwhole 0 0\nscan 0 8\n")
-
-    def test_a_batch_tried_to_its_end_is_a_scan(self) -> None:
-        text = "setup\nalloc 0\nsplitpmd 0 0\nunmap 0 0 0 8\ntake 0 8\nsplitnext 0\nsplitnext 0\nputback 0\n"
-        self.assertEqual([said.words[0] for said in self.expect(text).answers], ["alloc", "splitpmd", "unmap", "scan"])
-        self.assertIn("take", [said.words[0] for said in self.expect(text.replace("splitnext 0\nputback 0\n", "count 0\n")).answers])
 
     def test_workers_that_share_a_node_are_unsupported(self) -> None:
         with self.assertRaisesRegex(Unsupported, "share a node"):
@@ -233,7 +220,7 @@ class GeneratorTest(unittest.TestCase):
     def test_most_commands_can_be_done_and_each_is_drawn(self) -> None:
         drawn = {line.split()[0] for script in scripts(60, 1, Shape()) for line in script.text.split("\n")[2:-1]}
         self.assertEqual(drawn, {"alloc", "mapwhole", "unmapwhole", "map", "unmap", "splitpmd", "pin", "unpin", "write",
-                                 "zero", "scan", "count", "take", "splitnext", "putback"})
+                                 "zero", "scan", "count"})
         refused = [said.is_refused for script in scripts(8, 1, Shape(orders=(4, 5), length=30))
                    for said in expect_run(script, InProcessProgram()).answers]
         self.assertLess(5 * sum(refused), len(refused))
@@ -250,37 +237,60 @@ class GeneratorTest(unittest.TestCase):
         self.assertGreater(sum(length >= 20 for length in lengths), len(lengths) / 10)
 
 
-class WordsTest(unittest.TestCase):
-    """Command lines and files, whatever is in them, are used or refused."""
+class PassesTest(unittest.TestCase):
+    """Scans whose lists have passes of their own: queues of a group for each NUMA node."""
 
-    VALUES = ["", "0", "1", "9", "-1", "nan", "inf", "1e9", "9" * 40, "off", "9,9", "2,,3", ",", "\x1b[2J", "\udcff",
-              "\u0663", "1_0", "0x9", " 1", "--", "-"]
-    OPTIONS = ["--random", "--seed", "--node-counts", "--page-orders", "--thresholds", "--length", "--fill", "--nodes",
-               "--orders", "--underused", "--blocks", "--quiet", "--show", "--no-memory", "--unknown", "--json",
-               "--shrink", "--seeds", "--fingerprint", "--markdown"]
+    def test_lists_are_joined_in_the_order_of_their_nodes(self) -> None:
+        lists = lists_of([3, 1, 2, 0], {1: 1, 0: 1})
+        self.assertEqual(lists, {0: [3, 2], 1: [1, 0]})
+        self.assertEqual(join_lists(lists), [3, 2, 1, 0])
 
-    def test_random_words(self) -> None:
-        chance, used = random.Random(8), 0
-        for _ in range(1000):
-            given: list[str] = []
-            for _ in range(chance.randint(0, 4)):
-                given += [chance.choice(self.OPTIONS)] + [chance.choice(self.VALUES)] * chance.randint(0, 1)
-            try:
-                asked = parse_words(given)
-                used += len(list(scripts(1, asked.seed, parse_shape(asked))))
-            except InputFault as fault:
-                self.assertNotEqual(str(fault), "")
-        self.assertGreater(used, 25)
+    def test_failures_fit_whole_passes_of_each_list(self) -> None:
+        for failed, fits in ((4, False), (5, True), (6, False), (7, True), (8, True), (9, True)):
+            self.assertEqual(can_fail(failed, [(2, None), (3, None)]), fits, failed)
+        self.assertFalse(can_fail(5, [(2, False), (3, True)]))
+        self.assertTrue(can_fail(7, [(2, False), (3, True)]))
+        self.assertFalse(can_fail(9, [(2, False), (3, True)]))
+        self.assertTrue(can_fail(4, [(2, True), (2, True)]))
 
-    def test_random_files(self) -> None:
-        chance = random.Random(9)
-        letters = [b"setup\n", b"worker 1\n", b"worker\n", b"alloc 0\n", b"# thpsplit ", b"--nodes ", b"2 ", b"\n",
-                   b"\xff", b"\0", b"\r", b"\x0b", b"--orders 2,3", b"--underused 9999999999", b" "]
-        with tempfile.TemporaryDirectory() as folder:
-            path = Path(folder) / "x.script"
-            for _ in range(2000):
-                path.write_bytes(b"".join(chance.choice(letters) for _ in range(chance.randint(0, 12))))
-                try:
-                    read_script(str(path)).commands()
-                except InputFault as fault:
-                    self.assertNotEqual(str(fault), "")
+
+class ListsTest(unittest.TestCase):
+    """Queues of a node on two NUMA nodes: pages 0, 2 on node 0; 1, 3, 4 on node 1."""
+
+    NUMA_NODES = {(0, 1): 1, (0, 3): 1, (0, 4): 1}
+
+    def compare(self, failed: int, queue: list[int]) -> Comparison:
+        """Compares what a kernel shows after a scan."""
+        state = NodeState(4, None, False)
+        for page in range(5):
+            state.apply(Event(0, "alloc", page))
+            state.apply(Event(0, "pin", page))
+            state.apply(Event(0, "unmapsub", page, 0, 1))
+        state.queue = [0, 1, 2, 3, 4]
+        comparison = Comparison([state], set(), set())
+        comparison.command = ExpectedAnswer(1, ["count", "0"], "", ())
+        comparison.compare(self.look(state, 0, [0, 2, 1, 3, 4]))
+        pinned = [Event(0, word, page) for word in ("taken", "pinned", "back") for page in state.queue]
+        comparison.command = ExpectedAnswer(2, ["scan", "0", "9"], "", tuple(pinned))
+        comparison.compare(self.look(state, failed, queue))
+        return comparison
+
+    def look(self, state: NodeState, failed: int, queue: list[int]) -> Observation:
+        """What the kernel shows."""
+        machine: dict[Counter, int | None] = {counter: None for counter in Counter}
+        sizes: dict[tuple[SizeCounter, int], int | None] = {(counter, 4): None for counter in SizeCounter}
+        pages = {(0, number): PageObservation(16, page.totals(), 0) for number, page in enumerate(state.pages)}
+        return Observation(Counts(machine, {**sizes, (SizeCounter.SPLIT_FAILED, 4): failed}), pages, [queue], self.NUMA_NODES)
+
+    def test_each_list_is_turned_around_by_its_own_passes(self) -> None:
+        comparison = self.compare(5, [2, 0, 4, 3, 1])
+        self.assertIsNone(comparison.counters)
+        self.assertEqual(comparison.known & {"E", "F"}, {"E"})
+        self.assertIsNone(self.compare(2 + 6, [2, 0, 1, 3, 4]).counters)
+        self.assertIn("F", self.compare(2 + 6, [2, 0, 1, 3, 4]).known)
+
+    def test_another_order_or_number_is_a_difference(self) -> None:
+        for queue in ([2, 0, 1, 4, 3], [4, 3, 1, 2, 0], [2, 0, 4, 3]):
+            with self.assertRaises(Difference):
+                self.compare(5, queue)
+        self.assertIsNotNone(self.compare(6, [2, 0, 4, 3, 1]).counters)

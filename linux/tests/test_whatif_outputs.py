@@ -1,28 +1,27 @@
-"""Tables, pictures, metrics, the looks of `watch`, and the files in which outputs are written."""
+"""Tables, metrics, the looks of `watch`, and the files in which outputs are written."""
 
 from __future__ import annotations
 
+import contextlib
 import io
 import json
 import os
 import re
 import shutil
 import stat
-import tempfile
 import unittest
 from collections import Counter
 from pathlib import Path
 from typing import Sequence
 from unittest import mock
-from xml.etree import ElementTree
 
 from ..common.errors import InputFault, RunFailed
+from ..whatif.look import Snapshot
 from ..whatif.metrics import MARK, metrics_text, write_metrics
-from ..whatif.program import open_output
-from ..whatif.report import Report, cost_table, last_line, picture, round_up, table
-from ..whatif.rows import OFF, Moved, Row, Share, label, thresholds_of, with_today
-from ..whatif.snapshot import Snapshot
-from ..whatif.watch import Watch, line_of, watch
+from ..whatif.predictor import OFF, Row, label, thresholds_of, with_today
+from ..whatif.program import open_output, watch
+from ..whatif.report import Report, last_line
+from .cases import FolderCase
 
 ROWS = [Row(OFF, 10, 2, 0, 1, 512), Row(0, 10, 8, 6, 1, 2816)]
 HOSTILE = 'process 5 (a"}\\x0a# HELP x{): it ended'
@@ -34,7 +33,7 @@ def look_at(rows: Sequence[Row]) -> Report:
     """A look as `watch` makes it of a snapshot with these rows."""
     left_out = Counter({HOSTILE: 1, "huge pages that moved": 4})
     snapshot = Snapshot([], {}, left_out, Counter({"groups": 2}), today=0, sampled=4, changed=3, seconds=1.5)
-    return Report([snapshot], list(rows), {OFF: Moved(0, 0), 0: Moved(2, 30)}, 0.25)
+    return Report([snapshot], list(rows), {OFF: (0, 0), 0: (2, 30)})
 
 
 class Tables(unittest.TestCase):
@@ -44,64 +43,37 @@ class Tables(unittest.TestCase):
         for text in ("", "512", "-1", "01", "1,,2", "on", "1 "):
             self.assertRaises(InputFault, thresholds_of, text)
 
-    def test_table_marks_today(self) -> None:
-        lines = table(ROWS, 0).split("\n")
-        self.assertEqual(lines[1].split(), ["off", "2", "2", "0", "1", "512", "2.0", "8"])
-        self.assertEqual(lines[2].split(), ["0", "8", "2", "6", "1", "2816", "11.0", "2", "<-", "today"])
-        self.assertEqual(len({line.index(cell) + len(cell) for line, cell in zip(lines, ("threshold", "off", "0"))}), 1)
-
-    def test_costs_leave_out_those_that_lose_nothing(self) -> None:
-        text = cost_table({1: Share(5, 0, 0, 0), 2: Share(5, 3, 256, 4), 3: Share(0, 0, 0, 9)}, {2: "two"})
-        rows = [line.split() for line in text.split("\n")[1:]]
-        self.assertEqual(rows, [["3", "?", "9", "0", "0.0"], ["2", "two", "4", "3", "1.0"]])
-
     def test_left_out(self) -> None:
         self.assertEqual(last_line({"a": 0}), "left out: nothing")
         self.assertEqual(last_line({"pages": 2, "others": 7, "process 5 (x): it ended": 1}),
                          "left out: 7 others; 2 pages; process 5 (x): it ended")
         self.assertTrue(last_line({str(n): n for n in range(1, 8)}).endswith("; 3 more (--json has them)"))
 
-    def test_picture_is_drawn_to_scale(self) -> None:
-        root = ElementTree.fromstring(picture(ROWS, OFF))
-        bars = [each for each in root.iter("{http://www.w3.org/2000/svg}rect")][1:3]
-        heights = [float(bar.get("height", "0")) for bar in bars]
-        self.assertAlmostEqual(heights[1] / heights[0], 5.5, delta=0.05)
-        self.assertEqual([bar.get("stroke") is not None for bar in bars], [True, False])
-        self.assertEqual([round_up(v) for v in (0, 1, 1.5, 3, 11, 50, 51, 999)], [1, 1, 2, 5, 20, 50, 100, 1000])
-
 
 class Watching(unittest.TestCase):
-    def test_least_greatest_mean(self) -> None:
-        seen = Watch()
-        for frames in (512, 256, 1024):
-            seen.add([Row(0, 4, 1, 1, 0, frames)])
-        row = seen.table(0).split("\n")[2].split()
-        self.assertEqual(row, ["0", "4.0", "+2.0", "1.0", "4.0", "2.3", "<-", "today"])
-
     def test_rounds_and_lines(self) -> None:
-        out, looks = io.StringIO(), iter([(512, 7), (256, 10)])
+        looks = iter([(512, 7), (256, 10)])
 
         def look() -> Report:
             frames, collapsed = next(looks)
             return Report([Snapshot([], {}, Counter(), note="a note", collapsed=collapsed)], [Row(0, 4, 1, 1, 0, frames)])
 
-        self.assertEqual(watch(look, 0.01, 2, out), 0)
+        with contextlib.redirect_stdout(io.StringIO()) as out:
+            self.assertEqual(watch(look, 0.01, 2), 0)
         lines = out.getvalue().split("\n")
         self.assertEqual(lines[0][9:], "4 pages; MiB back: 0 2.0; a note")
         self.assertEqual(lines[1][9:], "4 pages; MiB back: 0 1.0; a note; khugepaged collapsed 3 huge pages since the last look")
-        self.assertEqual((lines[2], line_of([])), ("look 2", "0 pages; MiB back: "))
+        self.assertEqual(lines[2:], [""])
 
     def test_json_lines(self) -> None:
-        """Each look is a line, and nothing else, on a terminal too."""
-        out = io.StringIO()
-        with mock.patch.object(out, "isatty", return_value=True):
-            self.assertEqual(watch(lambda: look_at(ROWS), 0.001, 3, out, as_json=True), 4)
+        """Each look is a line, and nothing else."""
+        with contextlib.redirect_stdout(io.StringIO()) as out:
+            self.assertEqual(watch(lambda: look_at(ROWS), 0.001, 3, as_json=True), 4)
         looks = [json.loads(line) for line in out.getvalue().split("\n")[:-1]]
         self.assertEqual([look["look"] for look in looks], [1, 2, 3])
         for look in looks:
-            self.assertEqual([row["threshold"] for row in look["rows"]], ["off", 0])
-            self.assertEqual([row["today"] for row in look["rows"]], [False, True])
-            self.assertEqual(look["rows"][1]["mebibytes_back"], 11.0)
+            rows = [(row["threshold"], row["today"], row["mebibytes_back"]) for row in look["rows"]]
+            self.assertEqual(rows, [("off", False, 2), (0, True, 11)])
             self.assertEqual(look["left_out"], {HOSTILE: 1, "huge pages that moved": 4})
             self.assertEqual((look["read_twice"], look["of_these_changed"], look["queues_read"]), (4, 3, True))
             self.assertEqual((look["unread"], look["could_move"]), ({"groups": 2}, {"0": {"split": 2, "frames_back": 30}}))
@@ -110,14 +82,11 @@ class Watching(unittest.TestCase):
         self.assertTrue(out.getvalue().isascii())
 
 
-class Metrics(unittest.TestCase):
+class Metrics(FolderCase):
     """The text, and the file in a folder of `owner`: in place of root the user who runs the tests."""
 
     def setUp(self) -> None:
-        # below a user's folder: the way to a temporary one may be a symbolic link
-        self.folder = os.path.realpath(tempfile.mkdtemp(prefix="metrics-"))
-        self.addCleanup(shutil.rmtree, self.folder)
-        os.chmod(self.folder, 0o755)
+        super().setUp()
         self.path = f"{self.folder}/thp.prom"
 
     def write(self, report: Report | None, path: str = "") -> None:
@@ -131,16 +100,11 @@ class Metrics(unittest.TestCase):
     def test_text(self) -> None:
         text = metrics_text(look_at(ROWS))
         self.assertTrue(text.endswith("\n") and text.isascii() and text.encode().startswith(MARK))
-        name, names, lines = "", [], text.split("\n")[:-1]
-        for line in lines:
-            if line.startswith("# HELP "):
-                name = line.split(" ")[2]
-                names.append(name)
-                self.assertRegex(line, rf"^# HELP {name} [A-Z0-9].*\.$")
-            elif not line == f"# TYPE {name} gauge":
-                self.assertRegex(line, rf"^{name}[ {{]")
-                self.assertIsNotNone(LINE.fullmatch(line), line)
-        self.assertEqual((len(names), len(lines)), (len(set(names)), len(set(lines))))
+        lines = text.split("\n")[:-1]
+        values = [line for line in lines if not line.startswith("#")]
+        self.assertEqual([line for line in values if not LINE.fullmatch(line)], [])
+        self.assertEqual([line for line in lines if line.startswith("# TYPE ")],
+                         [f"# TYPE {name} gauge" for name in dict.fromkeys(re.split("[ {]", line)[0] for line in values)])
         wanted = {"huge_pages": 10, 'split_pages{threshold="off"}': 2, 'underused_pages{threshold="0"}': 6,
                   'partly_mapped_pages{threshold="0"}': 2, 'reclaimable_bytes{threshold="off"}': 2097152,
                   'kept_pages{threshold="0"}': 2, 'pinned_tries{threshold="0"}': 1, "max_ptes_none": 0, "left_out": 5, "unread": 2,
@@ -186,36 +150,30 @@ class Metrics(unittest.TestCase):
         os.symlink(f"{self.folder}/target", f"{self.folder}/link")
         os.mkfifo(f"{self.folder}/fifo")
         os.mkdir(f"{self.folder}/folder")
+        os.symlink("folder", f"{self.folder}/way")
         Path(f"{self.folder}/empty").touch()
         before = sorted(os.listdir(self.folder))
         for name in ("target", "link", "fifo", "folder", "empty"):
             self.refused("exists, and thpwhatif didn't write it", f"{self.folder}/{name}", look_at(ROWS))
         self.refused("can't be written: File name too long", f"{self.folder}/{'x' * 300}")
-        self.refused("link is no folder, or a symbolic link", f"{self.folder}/link/thp.prom")
+        self.refused("a symbolic link is on its way", f"{self.folder}/way/thp.prom")
         self.refused("No such file or directory", f"{self.folder}/none/thp.prom")
         self.assertEqual(sorted(os.listdir(self.folder)), before)
 
 
-class Outputs(unittest.TestCase):
-    def setUp(self) -> None:
-        folder = tempfile.TemporaryDirectory()
-        self.addCleanup(folder.cleanup)
-        self.folder = Path(folder.name)
-        self.path = self.folder / "new"
-
+class Outputs(FolderCase):
     def test_an_output_goes_away_with_its_work(self) -> None:
+        path = self.folder / "new"
         for fault in (InputFault("x"), RunFailed("x"), KeyboardInterrupt()):
-            with self.assertRaises(type(fault)), open_output(str(self.path)) as out:
-                assert out
+            with self.assertRaises(type(fault)), open_output(str(path)) as out:
                 out.write("text")
                 raise fault
-            self.assertFalse(os.path.lexists(self.path))
-        with open_output(str(self.path)) as out:
-            assert out
+            self.assertFalse(os.path.lexists(path))
+        with open_output(str(path)) as out:
             out.write("text")
-        self.assertEqual(stat.S_IMODE(os.stat(self.path).st_mode), 0o600)
-        self.assertEqual(self.path.read_text(), "text")
-        with self.assertRaisesRegex(InputFault, "exists already"), open_output(str(self.path)):
+        self.assertEqual(stat.S_IMODE(os.stat(path).st_mode), 0o600)
+        self.assertEqual(path.read_text(), "text")
+        with self.assertRaisesRegex(InputFault, "exists already"), open_output(str(path)):
             pass
 
     def test_nothing_else_goes_away_with_its_work(self) -> None:
@@ -226,7 +184,6 @@ class Outputs(unittest.TestCase):
         for moved in (folder, folder / "new"):
             folder.mkdir()
             with self.assertRaises(KeyboardInterrupt), open_output(str(folder / "new")) as out:
-                assert out
                 out.write("text")
                 moved.rename(f"{moved}.away")
                 moved.symlink_to(own if moved == folder else own / "new")

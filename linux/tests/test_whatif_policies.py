@@ -3,17 +3,19 @@
 from __future__ import annotations
 
 import json
-import tempfile
 import time
 import unittest
-from pathlib import Path
 from typing import Any
+from unittest import mock
 
+from ..common.checker import find_checker
 from ..common.errors import InputFault
 from ..common.journal import journal_of
 from ..common.program import find
-from ..whatif.policies import best_of, parse_scans, parse_threshold, policies_of
-from .whatif_samples import LACKING, ROOT, run
+from ..whatif import policies
+from ..whatif.policies import parse_scans, policies_of
+from .cases import ROOT, FolderCase
+from .whatif_samples import LACKING, run
 
 NEEDED = LACKING or ("" if find("thpcheck", ROOT / "crates/thpcheck/out/thpcheck") else "no thpcheck (make checker, THPCHECK)")
 
@@ -32,15 +34,6 @@ node 0 blocks 2
 end
 """
 """Two pages; the first one is split."""
-
-MEANWHILE = TWO[: TWO.index("0 taken")] + """0 taken 0
-0 taken 1
-0 split 0 0-255
-1 unmapsub 0 256 128 stays 256-383
-0 split 1 0-127
-end
-"""
-"""A page loses mappings after it is split, before the next one is."""
 
 CONTENTS = """thp-journal 3
 node 0 blocks 2 order 9 underused 500
@@ -70,7 +63,6 @@ end
 """
 """A page that another policy splits at once: calls of PMD mappings follow."""
 
-
 SPLIT_THERE = """thp-journal 3
 node 0 blocks 1 order 4 underused 15
 0 alloc 0
@@ -81,7 +73,6 @@ node 0 blocks 1 order 4 underused 15
 end
 """
 """A small page that the kernel splits, all zeros: calls of PTE mappings follow."""
-
 
 PINNED = """thp-journal 1
 node 0 blocks 1
@@ -96,32 +87,22 @@ end
 """
 """A page that is queued and pinned for some time, and then not."""
 
-LATEST = 10 ** 10
+LATEST = 10**10
 
 
 class Words(unittest.TestCase):
     def test_policies(self) -> None:
-        found = policies_of("recorded,off", "recorded,never,events:10", "all")
+        found = policies_of("recorded,511", "recorded,never,held:1.5")
         self.assertEqual([each.threshold for each in found], ["recorded", "recorded", "recorded", "off", "off"])
-        self.assertEqual([each.scans for each in found], ["recorded", "never", "events:10", "recorded", "events:10"])
+        self.assertEqual([each.scans for each in found], ["recorded", "never", "held:1.5", "recorded", "held:1.5"])
         for text in ("", "512", "-1", "on", "0x1", "1e3"):
-            self.assertRaises(InputFault, parse_threshold, text)
-        for text in ("", "events", "events:0", "events:1.5", "seconds:", "held:-1", "always", "held:1e3"):
+            self.assertRaises(InputFault, policies_of, text, "never")
+        for text in ("", "held", "seconds:0", "seconds:", "held:-1", "always", "held:1e3"):
             self.assertRaises(InputFault, parse_scans, text)
-        self.assertEqual((parse_threshold("511"), parse_scans("held:1.5")), ("off", ("held", 1.5)))
-
-    def test_best_has_fewest_splits(self) -> None:
-        outcomes = [{"split": split, "peak_mebibytes": peak} for split, peak in ((0, 3.5), (9, 1.0), (7, 0.8))]
-        self.assertEqual((best_of(outcomes, 1.0), best_of(outcomes, 0.5)), (outcomes[2], None))
 
 
 @unittest.skipIf(NEEDED, NEEDED)
-class Runs(unittest.TestCase):
-    def setUp(self) -> None:
-        folder = tempfile.TemporaryDirectory()
-        self.addCleanup(folder.cleanup)
-        self.folder = Path(folder.name)
-
+class Runs(FolderCase):
     def write(self, text: str, name: str = "journal") -> str:
         path = self.folder / name
         path.write_text(text, encoding="ascii")
@@ -136,12 +117,10 @@ class Runs(unittest.TestCase):
         return found
 
     def numbers(self, text: str, *words: str) -> list[tuple[Any, ...]]:
-        names = ("split", "failed", "frames_back", "huge_at_end", "calls_changed")
-        return [tuple(row[name] for name in names) for row in self.rows(text, *words)]
+        return [tuple(row[name] for name in ("split", "failed", "frames_back")) for row in self.rows(text, *words)]
 
     def test_as_recorded_and_never(self) -> None:
-        self.assertEqual(self.numbers(TWO), [(1, 0, 256, 0, 0), (0, 0, 0, 0, 0)])
-        self.assertEqual(self.numbers(MEANWHILE, "--scan", "recorded"), [(2, 0, 384, 0, 0)])
+        self.assertEqual(self.numbers(TWO), [(1, 0, 256), (0, 0, 0)])
         recorded, never = self.rows(TWO)
         self.assertEqual((recorded["peak_mebibytes"], never["peak_mebibytes"]), (4.0, 4.0))
         # after the ten events: 2, 2, 2, 4, 4, 4, 4, 3, 1, 0 MiB, each for a second but the last
@@ -149,7 +128,7 @@ class Runs(unittest.TestCase):
         self.assertEqual(never["mean_mebibytes"], round((2 * 3 + 4 * 5 + 2) / 9, 3))
 
     def test_scans_by_events_and_memory(self) -> None:
-        by_events, by_memory = self.rows(TWO, "--scan", "events:6,held:3.5", "--take", "all")
+        by_events, by_memory = self.rows(TWO, "--scan", "seconds:6,held:3.5")
         self.assertEqual((by_events["scans_done"], by_events["split"], by_events["frames_back"]), (1, 2, 384))
         # page 0 is split when the second one comes; then 3 MiB are held
         self.assertEqual((by_memory["scans_done"], by_memory["split"], by_memory["frames_back"]), (1, 1, 256))
@@ -157,39 +136,20 @@ class Runs(unittest.TestCase):
 
     def test_scans_by_time(self) -> None:
         for every, times in (("30", [100, 100.5, 101, 101.5, 160, 161, 200, 201, 202, 203]), ("0.001", [*range(9), LATEST])):
-            row = self.rows(TWO, "--scan", f"seconds:{every}", "--take", "all", times=times)[0]
+            row = self.rows(TWO, "--scan", f"seconds:{every}", times=times)[0]
             self.assertEqual((row["scans_done"], row["split"]), (2, 2))
-            self.assertGreater(row["mebibyte_hours"], 0)
 
     def test_scans_that_change_nothing_take_no_time(self) -> None:
         for until, every in ((1000, "1"), (1000, "0.25"), (LATEST - 9, "0.001")):
             began = time.monotonic()
             times: list[float] = [0, 0, 0, 1, until, until + 1, until + 9]
-            row = self.rows(PINNED, "--scan", f"seconds:{every}", "--take", "all", times=times)[0]
+            row = self.rows(PINNED, "--scan", f"seconds:{every}", times=times)[0]
             scans = int(until / float(every))
             # the scans while the page is pinned all fail; then it is split
             self.assertAlmostEqual(row["failed"], scans, delta=scans * 1e-9 + 1 / float(every) + 1)
             self.assertEqual((row["split"], row["scans_done"] - row["failed"]), (1, 1))
-            self.assertAlmostEqual(row["mebibyte_hours"], 2 * (until + 9) / 3600, delta=1 + until / 1e6)
+            self.assertAlmostEqual(row["mean_mebibytes"] * row["seconds"], 2 * (until + 9), delta=9 + until / 1e6)
             self.assertLess(time.monotonic() - began, 10)
-
-    def test_skipped_scans_leave_the_order_of_the_queue(self) -> None:
-        """Of five pages, all pinned, each scan takes two; which ones the scan after an unpin takes is as if all were done."""
-        head = ["0 alloc {0}", "0 splitpmd {0}", "0 unmapsub {0} 0 1 queued -", "0 pin {0}"]
-        events = [line.format(page) for page in range(5) for line in head] + ["0 unpin 1 stays -", "0 mapsub 1 5 1"]
-        text = "thp-journal 1\nnode 0 blocks 5\n" + "".join(line + "\n" for line in events) + "end\n"
-        found = set()
-        for pause in range(10, 15):
-            times = [0.0 for _ in events[:-2]] + [pause, pause + 2]
-            row = self.rows(text, "--scan", "seconds:1", "--take", "2", times=times)[0]
-            order, failed, split = list(range(5)), 0, 0
-            for scan in range(1, pause + 3):
-                taken, order = order[:2], order[2:]
-                put_back = [page for page in taken if page != 1 or scan <= pause]
-                failed, split, order = failed + len(put_back), split + len(taken) - len(put_back), order + put_back
-            self.assertEqual((row["failed"], row["split"], row["scans_done"]), (failed, split, pause + 2), pause)
-            found.add(split)
-        self.assertEqual(found, {0, 1})
 
     def test_thresholds(self) -> None:
         rows = self.numbers(CONTENTS, "--threshold", "recorded,411,412,off", "--scan", "recorded")
@@ -197,18 +157,17 @@ class Runs(unittest.TestCase):
 
     def test_pages_that_are_split_here_or_there_alone(self) -> None:
         for text, words, row in (
-            (SPLIT_EARLY, ("--threshold", "0", "--scan", "events:2", "--take", "all"), (1, 0, 512, 0, 4)),
-            (SPLIT_THERE, ("--scan", "never"), (0, 0, 0, 0, 1)),
-            (SPLIT_THERE, ("--threshold", "15", "--scan", "recorded"), (1, 0, 16, 0, 0)),
-            (SPLIT_THERE, ("--threshold", "16", "--scan", "recorded"), (0, 0, 0, 0, 1)),
+            (SPLIT_EARLY, ("--threshold", "0", "--scan", "seconds:2"), (1, 0, 512)),
+            (SPLIT_THERE, ("--scan", "never"), (0, 0, 0)),
+            (SPLIT_THERE, ("--threshold", "15", "--scan", "recorded"), (1, 0, 16)),
+            (SPLIT_THERE, ("--threshold", "16", "--scan", "recorded"), (0, 0, 0)),
         ):
             self.assertEqual(self.numbers(text, *words), [row], words)
 
     def test_more_pages_than_a_batch_holds(self) -> None:
         begin = "".join(f"0 alloc {page}\n0 splitpmd {page}\n0 unmapsub {page} 0 1 queued -\n" for page in range(131))
         scan = "".join(f"0 taken {page}\n" for page in range(130)) + "".join(f"0 split {page} 0\n" for page in range(130))
-        row = self.numbers(f"thp-journal 1\nnode 0 blocks 131\n{begin}{scan}end\n", "--scan", "recorded")[0]
-        self.assertEqual(row, (130, 0, 130, 1, 0))
+        self.assertEqual(self.numbers(f"thp-journal 1\nnode 0 blocks 131\n{begin}{scan}end\n", "--scan", "recorded"), [(130, 0, 130)])
 
     def test_the_examples_as_recorded(self) -> None:
         for path in ("kernel", "two_workers", "eight_workers", "underused"):
@@ -216,12 +175,20 @@ class Runs(unittest.TestCase):
             events = [event for node in journal_of(text) for event in node.events]
             wanted = [sum(event.word == word for event in events) for word in ("split", "pinned")]
             wanted.append(sum(bin(event.given).count("1") for event in events if event.word == "split"))
-            row = self.numbers(text, "--scan", "recorded")[0]
-            self.assertEqual((list(row[:3]), row[4]), (wanted, 0), path)
+            self.assertEqual(self.numbers(text, "--scan", "recorded"), [tuple(wanted)], path)
 
-    def refused(self, told: str, *words: str, status: int = 2) -> None:
+    def test_parts_of_a_journal_make_no_difference(self) -> None:
+        path, found = str(ROOT / "examples/eight_workers.journal"), []
+        for part in (1, 100, 1 << 20):
+            with mock.patch.object(policies, "PART", part):
+                recordings = policies.open_recordings([path, path], [], find_checker())
+                found.append(policies.outcomes_of(policies_of("recorded,off", "recorded,seconds:9"), recordings))
+        self.assertEqual(found[0], found[2])
+        self.assertEqual(found[1], found[2])
+
+    def refused(self, told: str, *words: str) -> None:
         done = run("policies", *words)
-        self.assertEqual((done.returncode, done.stdout, done.stderr.count("\n")), (status, "", 1), done.stderr)
+        self.assertEqual((done.returncode, done.stdout, done.stderr.count("\n")), (2, "", 1), done.stderr)
         self.assertIn(told, done.stderr)
 
     def test_faults(self) -> None:
@@ -230,19 +197,13 @@ class Runs(unittest.TestCase):
         self.refused("no regular file", str(self.folder))
         self.refused("threshold '512'", journal, "--threshold", "512")
         self.refused("'always' is no time of scans", journal, "--scan", "always")
-        self.refused("'0' is no number of pages", journal, "--take", "0")
-        self.refused("needs the times", journal, "--scan", "seconds:2")
         self.refused("1 files of times for 2 journals", journal, journal, "--times", journal)
-        self.refused("is no journal", str(ROOT / "examples" / "first.script"))
-        self.refused("illegal line 10", self.write(TWO.replace("split 0 0-255", "split 0 0-254"), "illegal"), status=1)
+        self.refused("is no legal journal", str(ROOT / "examples" / "first.script"))
+        self.refused("illegal line 10", self.write(TWO.replace("split 0 0-255", "split 0 0-254"), "illegal"))
         for times, told in (
             (ten[:9], "line 12: there is no time of this event"), (ten + ["10"], "more times"),
-            (["5", *ten[:9]], "line 4: its time is before"),
-            (["inf", *ten[1:]], "no number of seconds"), (["nan", *ten[1:]], "no number of seconds"), (["-1", *ten[1:]], "no number"),
+            (["5", *ten[:9]], "line 4: its time isn't"), (["inf", *ten[1:]], "line 4: its time"),
+            (["nan", *ten[1:]], "line 3: its time"), (["-1", *ten[1:]], "line 3: its time"), ([*ten[:9], "1e11"], "line 12: its time"),
+            ([*ten[:9], "x"], "a time from line 3 on is no number: could not"),
         ):
             self.refused(told, journal, "--times", self.write("\n".join(times) + "\n", "times"))
-
-    def test_best(self) -> None:
-        told = run("policies", self.write(TWO), "--best", "4").stdout
-        self.assertIn("best: threshold recorded, scans never: 0 pages split, at most 4.0 MiB", told)
-        self.assertIn("no policy holds at most 1 MiB", run("policies", self.write(TWO), "--best", "1").stdout)

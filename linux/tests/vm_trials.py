@@ -1,35 +1,53 @@
-#!/usr/bin/env python3
-"""Tries the tools on Debian's kernels, each booted once in a virtual machine: `make linux-vm`.
+"""Tries the tools on Debian's kernels, each booted once in a virtual machine: `make linux-vm`. apt downloads their packages, with lists
+of its own, into linux/out/kernels; those that are there are used again.
 
-    python3 linux/tests/vm_trials.py [KernelTests.test_bookworm ..]
+    python3 linux/tests/run.py -p vm_trials.py [-k bookworm]
 
 On each kernel the programs that read queues and those of the recorder load, random scripts agree, queues among them, readers of
 queues with injected bugs are found, a recording is legal, and docs/LINUX.md has the kernel's column of known differences, if it has one.
-The judges are thpsplit and thpcheck where they are built, else the plain reading of the model. The last line is `N passed, M
-failed`; a kernel that can't be had is skipped, and named.
+The judges are thpsplit and thpcheck where they are built, else the plain reading of the model. A kernel that can't be
+had is skipped, and named.
 """
 
 from __future__ import annotations
 
 import re
 import subprocess
-import sys
 import unittest
 from pathlib import Path
 
-ROOT = Path(__file__).resolve().parent.parent.parent
-sys.path.insert(0, str(ROOT))
-sys.dont_write_bytecode = True
-
-from linux.common import checker, program  # noqa: E402
-from linux.common.errors import DIFFERS, DONE, SKIPPED  # noqa: E402
-from linux.tests.matrix import DOCUMENT, find_wrong  # noqa: E402
-from linux.tests.root_case import main  # noqa: E402
+from ..common import checker, program
+from ..common.errors import DIFFERS, DONE, SKIPPED
+from .cases import DOCUMENT, ROOT, VM, find_wrong
 
 PROGRAM = "" if program.find("thpsplit", program.BUILT) else "--program linux/tests/plain_program.py"
 CHECKER = "" if program.find("thpcheck", checker.BUILT) else "--checker linux/tests/plain_checker.py"
 SCRIPTS = 10
-STEPS, EVENTS = 200, 1000  # of a recording
+STEPS = 600  # of a recording
+MIRROR, KEYS = "http://deb.debian.org/debian", "/usr/share/keyrings/debian-archive-keyring.gpg"
+
+
+def fetch_kernel(suite: str) -> Path | None:
+    """Returns the file of the package that has the kernel of a suite; None where it can't be had."""
+    place = ROOT / "linux/out/kernels" / suite
+    for folder in ("lists/partial", "cache/archives/partial"):
+        (place / folder).mkdir(parents=True, exist_ok=True)
+    (place / "sources.list").write_text(f"deb [signed-by={KEYS}] {MIRROR} {suite} main\n")
+    options = ["-o", "APT::Sandbox::User=root"]
+    for name, value in (("Etc::sourcelist", place / "sources.list"), ("Etc::sourceparts", "-"), ("State::lists", place / "lists"),
+                        ("Cache", place / "cache"), ("State::status", "/dev/null")):
+        options += ["-o", f"Dir::{name}={value}"]
+
+    def call(tool: str, *words: str) -> str:
+        return subprocess.run([tool, *options, *words], cwd=place, stdout=subprocess.PIPE, text=True, check=False).stdout
+
+    package = "linux-image-amd64"
+    if not list(place.glob("*.deb")):
+        call("apt-get", "-qq", "update")
+        while needed := re.search(r"^Depends:(?:.*[ ,|])?(linux-(?:image|binary)-[a-z0-9.+~-]+)", call("apt-cache", "show", package), re.M):
+            package = needed[1]
+        call("apt-get", "-qq", "download", package)
+    return next(place.glob("*.deb"), None)
 
 
 class KernelTests(unittest.TestCase):
@@ -47,15 +65,18 @@ class KernelTests(unittest.TestCase):
         replay = f"{PROGRAM} --quiet --node-counts 1,2 --queue-lengths 2,4,8,20 {shape}"
         commands = {
             "scripts": f"thpreplay {replay} --random {SCRIPTS}",
-            "reverse": f"python3 linux/tests/wrong_queues.py reverse {replay} --random 5 --shrink 0",
-            "other": f"python3 linux/tests/wrong_queues.py other {replay} --random 2 --shrink 0",
-            "recording": f"thprecord {CHECKER} --require 50 --own 1,{STEPS},1 --least {EVENTS}",
-            "letters": f"thpreplay {PROGRAM} --fingerprint --markdown",
+            "reverse": f"python3 -m linux.tests.wrong_queues reverse {replay} --random 5 --shrink 0",
+            "other": f"python3 -m linux.tests.wrong_queues other {replay} --random 2 --shrink 0",
+            "recording": f"thprecord {CHECKER} --require 50 --own 1,{STEPS},1",
+            "letters": f"uname -r; thpreplay {PROGRAM} --fingerprint",
         }
         script = "; ".join(f"echo == {name}; {command} 2>&1; echo status $?" for name, command in commands.items())
-        words = ["--suite", suite, "--numa", str(numa_nodes), "-v", "linux-image-amd64", "--", "sh", "-c", script]
+        package = fetch_kernel(suite)
+        if not package:
+            self.skipTest(f"the kernel of {suite} can't be downloaded")
+        words = ["--numa", str(numa_nodes), str(package), "--", "sh", "-c", script]
         shown = ""
-        with subprocess.Popen([ROOT / "linux/thpvm", *words], cwd=ROOT, stdin=subprocess.DEVNULL, stdout=subprocess.PIPE,
+        with subprocess.Popen([VM, *words], cwd=ROOT, stdin=subprocess.DEVNULL, stdout=subprocess.PIPE,
                               stderr=subprocess.STDOUT, text=True, errors="replace") as tool:
             assert tool.stdout
             for line in tool.stdout:
@@ -71,8 +92,5 @@ class KernelTests(unittest.TestCase):
         for name, pattern in (("scripts", rf"\b{SCRIPTS} agrees\n"), ("scripts", r"[1-9][0-9]* queues compared\n"),
                               ("recording", r"^legal.*\n(.*\n)* *[1-9][0-9]* queues compared")):
             self.assertRegex(found[name], re.compile(pattern, re.MULTILINE))
-        self.assertIsNone(find_wrong(found["letters"], DOCUMENT.read_text(encoding="utf-8")))
-
-
-if __name__ == "__main__":
-    main()
+        release, _, letters = found["letters"].partition("\n")
+        self.assertIsNone(find_wrong(release.strip(), letters, DOCUMENT.read_text(encoding="utf-8")))

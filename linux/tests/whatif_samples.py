@@ -13,9 +13,11 @@ from typing import Any
 from ..common.errors import Unavailable
 from ..common.folios import Folio, Mapping, compact_counts
 from ..common.subpages import bits_of
-from ..whatif.predictor import load_library
+from ..whatif.library import load_library
+from ..whatif.look import Snapshot
+from ..whatif.stored import StoredReader
+from .cases import ROOT
 
-ROOT = Path(__file__).resolve().parent.parent.parent
 LOOKS, TRIALS = ROOT / "linux/tests/looks", ROOT / "linux/tests/trials"
 try:
     load_library()
@@ -30,6 +32,12 @@ def run(*words: str, user: int | None = None) -> subprocess.CompletedProcess[str
     given: dict[str, Any] = {} if user is None or os.geteuid() else {"user": user, "group": user, "extra_groups": []}
     command = ["/usr/bin/python3" if given else sys.executable, "-B", "-m", "linux.whatif", *words]
     return subprocess.run(command, capture_output=True, text=True, cwd=ROOT, check=False, **given)
+
+
+def load(path: str | Path, mebibytes: int = 64) -> Snapshot:
+    """A stored snapshot, read within so much memory."""
+    with open(path, "rb") as file:
+        return StoredReader(mebibytes).read(str(path), file)
 
 
 def folio(number: int = 0, order: int = 9, **facts: Any) -> Folio:

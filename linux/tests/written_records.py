@@ -15,8 +15,7 @@ from ..common.program import Program
 from ..record.calls import MADVISE, MUNMAP
 from ..record.journal_builder import JournalBuilder
 from ..record.reasons import Count, Omission
-from ..record.records import HEAD, IN_FAULT, QUEUE_MOST, SET, Kind, Record
-from ..record.store import Store
+from ..record.records import HEAD, IN_FAULT, QUEUE_MOST, SET, Kind, Record, Store
 
 SPACE, TASK, OTHER, DAEMON = 0xA000, 7, 12, 90  # an address space and two of its tasks; one of no group, which scans or collapses
 HUGE, BASE, DONTNEED = 1 << 21, 4096, 4
@@ -135,7 +134,7 @@ def store_records(records: Sequence[Record]) -> Store:
     """Returns a store of records, linked."""
     store = Store()
     for record in records:
-        store.append(pack_record(record))
+        store.add(pack_record(record))
     store.link()
     return store
 
@@ -145,7 +144,6 @@ def read_recording(name: str) -> Store:
     store = Store()
     with gzip.open(STORED / f"{name}.records.gz") as file:
         os.write(store.descriptor, file.read())
-    store.note_records(0)
     store.link()
     return store
 
@@ -172,9 +170,7 @@ class JournalCase(unittest.TestCase):
         self.assertTrue(Program(PLAIN).check(text).legal, text)
         self.assertEqual(builder.tallies[Count.QUEUES_DIFFER], 0)
 
-    def check(
-        self, written: WrittenRecords | str, last: str | None, *omitted: Omission, threshold: int | None = None
-    ) -> JournalBuilder:
+    def check(self, written: WrittenRecords | str, last: str | None, *omitted: Omission, threshold: int | None = None) -> JournalBuilder:
         """Checks that the journal is legal and ends with these events (has none for ""; None: with any), and that pages are left out
         for these reasons alone."""
         written = WrittenRecords(written) if isinstance(written, str) else written

@@ -1,7 +1,6 @@
-#!/usr/bin/env python3
 """`thpreplay` with an injected bug in its reader of queues, which a comparison must find. Needs root.
 
-    python3 linux/tests/wrong_queues.py reverse|other OPTIONS..
+    python3 -m linux.tests.wrong_queues reverse|other OPTIONS..
 
     reverse   a queue is read from its end
     other     pages of another control group are counted in
@@ -11,14 +10,10 @@ from __future__ import annotations
 
 import os
 import sys
-from pathlib import Path
 
-sys.path.insert(0, str(Path(__file__).resolve().parent.parent.parent))
-sys.dont_write_bytecode = True
-
-from linux.common.groups import find_hierarchy  # noqa: E402
-from linux.common.kernel_memory import KernelMemory  # noqa: E402
-from linux.replay.__main__ import start  # noqa: E402
+from ..common.groups import find_hierarchy
+from ..common.kernel_memory import KernelMemory
+from ..replay.__main__ import start
 
 READ = KernelMemory.queues
 

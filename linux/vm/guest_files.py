@@ -18,6 +18,7 @@ from typing import BinaryIO
 
 from ..common.checker import BUILT as BUILT_CHECKER
 from ..common.errors import InputFault, Unavailable
+from ..common.files import named_faults
 from ..common.helpers import LINUX, helper
 from ..common.program import BUILT, ENVIRONMENT, find
 from ..common.text import escape
@@ -40,37 +41,6 @@ PROGRAM, FILE, LINK = 0o755 | stat.S_IFREG, 0o644 | stat.S_IFREG, 0o777 | stat.S
 FOLDER, SHARED_FOLDER = 0o755 | stat.S_IFDIR, 0o1777 | stat.S_IFDIR
 
 
-class Archive:
-    """Writes entries one by one. Paths are absolute; the folders that a path needs are made before it. A path that is in the
-    archive already stays as it is."""
-
-    def __init__(self, out: BinaryIO) -> None:
-        self._out = out
-        self._paths = {""}
-
-    def __contains__(self, path: str) -> bool:
-        return path in self._paths
-
-    def add(self, path: str, mode: int, data: bytes = b"", changed: int = 0) -> None:
-        """Adds a file, a folder or a link, whose data are its target, with the time of its last change."""
-        path = path.rstrip("/")
-        if path not in self._paths:
-            self.add(path.rpartition("/")[0], FOLDER)
-            self._paths.add(path)
-            self._write(path.lstrip("/"), mode, data, changed)
-
-    def end(self) -> None:
-        """Writes the end of the archive."""
-        self._write("TRAILER!!!", 0, b"", 0)
-
-    def _write(self, name: str, mode: int, data: bytes, changed: int) -> None:
-        raw = os.fsencode(name) + b"\0"
-        links = 2 if stat.S_ISDIR(mode) else 1
-        fields = (len(self._paths), mode, 0, 0, links, changed & 0xFFFFFFFF, len(data), 0, 0, 0, 0, len(raw), 0)
-        head = f"070701{''.join(f'{field:08x}' for field in fields)}".encode() + raw
-        self._out.write(head + bytes(-len(head) % 4) + data + bytes(-len(data) % 4))
-
-
 def path_in_guest(path: str) -> str:
     """Returns where a file of this machine is in the guest, whose programs and libraries are all below /usr."""
     return re.sub(f"^/({'|'.join(MERGED)})/", r"/usr/\1/", path)
@@ -84,32 +54,52 @@ def libraries_of(path: str) -> list[str]:
 
 def standard_library() -> str:
     """Returns the folder of the modules of the distribution's Python."""
-    words = [PYTHON, "-I", "-c", "import sysconfig; print(sysconfig.get_path('stdlib'))"]
-    done = subprocess.run(words, stdin=subprocess.DEVNULL, capture_output=True, text=True, check=False)
-    if done.returncode or not os.path.isdir(done.stdout.strip()):
-        raise Unavailable(f"no {PYTHON} with its modules")
-    return done.stdout.strip()
+    found = f"/usr/lib/{os.path.basename(os.path.realpath(PYTHON))}"
+    if not os.path.isdir(found):
+        raise Unavailable(f"no {PYTHON} with its modules in {found}")
+    return found
 
 
 class GuestFiles:
-    """Fills an archive."""
+    """Writes the archive. Paths are absolute; the folders that a path needs are made before it. A path that is in the archive already
+    stays as it is."""
 
-    def __init__(self, archive: Archive) -> None:
-        self._archive = archive
+    def __init__(self, out: BinaryIO) -> None:
+        self._out = out
+        self._paths = {""}
         self._programs: list[str] = []
 
-    def add(self, options: argparse.Namespace) -> None:
-        """Adds everything that a command line needs (__main__.py)."""
+    def add(self, path: str, mode: int, data: bytes = b"") -> None:
+        """Adds a file, a folder or a link, whose data are its target."""
+        path = path.rstrip("/")
+        if path not in self._paths:
+            self.add(path.rpartition("/")[0], FOLDER)
+            self._paths.add(path)
+            self._write(path.lstrip("/"), mode, data)
+
+    def end(self) -> None:
+        """Writes the end of the archive."""
+        self._write("TRAILER!!!", 0, b"")
+
+    def _write(self, name: str, mode: int, data: bytes) -> None:
+        raw = os.fsencode(name) + b"\0"
+        links = 2 if stat.S_ISDIR(mode) else 1
+        fields = (len(self._paths), mode, 0, 0, links, 0, len(data), 0, 0, 0, 0, len(raw), 0)
+        head = f"070701{''.join(f'{field:08x}' for field in fields)}".encode() + raw
+        self._out.write(head + bytes(-len(head) % 4) + data + bytes(-len(data) % 4))
+
+    def add_all(self, options: argparse.Namespace) -> None:
+        """Adds everything that a command line needs (__main__.py), and the end."""
         for name in MERGED:
-            self._archive.add(f"/usr/{name}", FOLDER)
-            self._archive.add(f"/{name}", LINK, f"usr/{name}".encode())
+            self.add(f"/usr/{name}", FOLDER)
+            self.add(f"/{name}", LINK, f"usr/{name}".encode())
         for folder in ("/tmp", "/var/tmp"):
-            self._archive.add(folder, SHARED_FOLDER)
+            self.add(folder, SHARED_FOLDER)
         for folder in (*EMPTY_FOLDERS, path_in_guest(os.getcwd())):
-            self._archive.add(folder, FOLDER)
-        self._archive.add("/etc/passwd", FILE, PASSWD)
-        self._archive.add("/etc/group", FILE, GROUP)
-        self._archive.add("/init", PROGRAM, Path(__file__).with_name("init.py").read_bytes())
+            self.add(folder, FOLDER)
+        self.add("/etc/passwd", FILE, PASSWD)
+        self.add("/etc/group", FILE, GROUP)
+        self.add("/init", PROGRAM, Path(__file__).with_name("init.py").read_bytes())
         library = standard_library()
         self._add_folder(library, UNUSED | {path.name for path in Path(library).glob("config-*")})
         self._add_tools()
@@ -119,18 +109,16 @@ class GuestFiles:
             self._add_named(os.path.abspath(path))
         command = [self._add_command(options.command[0]), *options.command[1:]]
         self._add_libraries()
-        environment = dict(each.split("=", 1) for each in options.set)
-        plan = {"command": command, "folder": os.getcwd(), "cgroup": options.cgroup, "environment": environment}
-        self._archive.add("/etc/thpvm.json", FILE, json.dumps(plan).encode())
-        self._archive.end()
+        self.add("/etc/thpvm.json", FILE, json.dumps({"command": command, "folder": os.getcwd()}).encode())
+        self.end()
 
     def _add_file(self, path: str, place: str = "") -> None:
         """Adds a file of this machine at its path, or at another one; its libraries later."""
         found = os.stat(path)
         if not stat.S_ISREG(found.st_mode) or found.st_size > MOST_FILE:
             raise InputFault(f"{escape(path)} is no regular file, or has more than {MOST_FILE >> 20} MiB")
-        data, is_program = Path(path).read_bytes(), found.st_mode & stat.S_IXUSR
-        self._archive.add(path_in_guest(place or path), PROGRAM if is_program else FILE, data, int(found.st_mtime))
+        data = Path(path).read_bytes()
+        self.add(path_in_guest(place or path), PROGRAM if found.st_mode & stat.S_IXUSR else FILE, data)
         if data[:4] == b"\x7fELF":
             self._programs.append(path)
 
@@ -142,45 +130,42 @@ class GuestFiles:
             count += len(names)
             if count > MOST_FILES:
                 raise InputFault(f"{escape(path)} has more than {MOST_FILES} files")
-            for name in sorted(names):
-                if os.path.isfile(os.path.join(folder, name)):
-                    self._add_file(os.path.join(folder, name))
+            for each in (os.path.join(folder, name) for name in sorted(names)):
+                if os.path.isfile(each):
+                    self._add_file(each)
 
     def _add_tools(self) -> None:
+        """Adds the tools, so that their names alone start them, their helpers, and the programs that they call."""
         is_checkout = (LINUX / "tests").is_dir()
         for name in FOLDERS_OF_CHECKOUT if is_checkout else ("linux",):
             self._add_folder(str(LINUX.parent / name), BUILT_FOLDERS)
         for name in sorted({"mapper", "thpkernel.so", *(path.name for path in (LINUX / "out").glob("*") if path.is_file())}):
             self._add_file(helper(name))
-        for tool in TOOLS:  # so that its name alone starts it
+        for tool in TOOLS:
             name = os.path.basename(tool)
             path = LINUX / tool if is_checkout else LINUX.parents[2] / "bin" / name
             self._add_file(str(path))
-            self._archive.add(f"/usr/bin/{name}", LINK, os.fsencode(path))
+            self.add(f"/usr/bin/{name}", LINK, os.fsencode(path))
         for name, built in (("thpsplit", BUILT), ("thpcheck", BUILT_CHECKER)):
-            found = find(name, built)
-            if found:
-                self._add_file(found, f"/usr/bin/{name}")
+            self._add_found(find(name, built), f"/usr/bin/{name}")
 
-    def _add_found(self, path: str | None) -> None:
+    def _add_found(self, path: str | None, place: str = "") -> None:
+        """Adds a program, if it was found, with what its path leads to."""
         if path:
-            self._add_file(os.path.realpath(path), path)
+            self._add_file(os.path.realpath(path), place or path)
 
     def _add_named(self, path: str) -> None:
         """Adds a file or folder that the caller names."""
-        try:
+        with named_faults(path, "can't be put into the guest"):
             if os.path.isdir(path):
                 self._add_folder(path)
             else:
                 self._add_file(path)
-        except (OSError, ValueError) as error:
-            reason = getattr(error, "strerror", None) or str(error)
-            raise InputFault(f"{escape(path)} can't be put into the guest: {reason}") from error
 
     def _add_command(self, word: str) -> str:
         """Adds the program of a command, and returns the command's first word in the guest."""
         if "/" not in word:
-            if f"/usr/bin/{word}" not in self._archive:
+            if f"/usr/bin/{word}" not in self._paths:
                 self._add_found(shutil.which(word, path=SEARCHED))
             return word
         path = os.path.abspath(word)

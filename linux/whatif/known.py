@@ -1,10 +1,10 @@
 """A process with huge pages in known states, by a seed, for linux/whatif/verify.py. It needs nothing of this package.
 
-    known.py SEED PAGES MICROS
+    known.py SEED PAGES
 
 Pages are of PMD size and smaller; each is filled in part, and what befalls it is by chance. The process prints `look` at most once, where
 the shrinker is to look at the pages that are there, so that they leave the queue or are split, and waits for a line. Then it prints
-`ready` and stays. MICROS above 0: pages of PMD size, of which one changes in each so many microseconds.
+`ready` and stays.
 """
 
 from __future__ import annotations
@@ -15,7 +15,6 @@ import os
 import random
 import signal
 import sys
-import time
 from contextlib import suppress
 
 BASE, PMD_ORDER = 4096, 9
@@ -103,29 +102,13 @@ def make_page(chance: random.Random) -> KnownPage:
     return page
 
 
-def change_pages(chance: random.Random, pages: list[KnownPage], micros: int) -> None:
-    """Writes, clears and drops subpages, for ever."""
-    while True:
-        page, what = chance.choice(pages), chance.randrange(8)
-        first = chance.randrange(page.size)
-        count = chance.randrange(1, page.size - first + 1)
-        if what:
-            page.fill(first, count, 0 if what < 4 else what)
-        else:
-            page.advise(first, count, mmap.MADV_DONTNEED)
-        time.sleep(micros / 1e6)
-
-
-def main(seed: str, count: int, micros: int) -> None:
+def main(seed: str, count: int) -> None:
     """Makes the pages, and stays."""
     end_with_parent()
     signal.signal(signal.SIGCHLD, signal.SIG_IGN)
     chance = random.Random(seed)
-    if micros:
-        pages = [KnownPage(PMD_ORDER) for _ in range(count)]
-        print("ready", flush=True)
-        change_pages(chance, pages, micros)
-    looked, pages = chance.choice((0, count // 3)), []
+    looked = chance.choice((0, count // 3))
+    pages: list[KnownPage] = []
     while len(pages) < count:
         if pages and len(pages) == looked:
             print("look", flush=True)
@@ -136,4 +119,4 @@ def main(seed: str, count: int, micros: int) -> None:
 
 
 if __name__ == "__main__":
-    main(sys.argv[1], int(sys.argv[2]), int(sys.argv[3]))
+    main(sys.argv[1], int(sys.argv[2]))

@@ -1,5 +1,5 @@
-"""Which processes are looked at, and a look at their huge pages: linux/common/reader, and what the kernel's own structures contain,
-by BPF.
+"""A look at the huge pages of chosen processes: what was read (linux/common/reader, and by BPF what the kernel's own structures
+contain), what couldn't be read, and what was left out and why.
 
 Rules: include/linux/mm_types.h (struct folio), include/linux/page-flags.h (PG_partially_mapped of the second page),
 mm/huge_memory.c (folio_expected_ref_count: a reference for each mapping; any more are pins).
@@ -8,6 +8,7 @@ mm/huge_memory.c (folio_expected_ref_count: a reference for each mapping; any mo
 from __future__ import annotations
 
 import os
+import re
 import time
 from collections import Counter
 from dataclasses import dataclass, field, replace
@@ -22,10 +23,9 @@ from ..common.kernel_library import STATES, PageState
 from ..common.kernel_memory import KernelMemory
 from ..common.machine import first_line, namespace_note
 from ..common.proc import group_names, machine_huge, members, missing_capabilities, name_of, reason_of
-from ..common.reader import HIDDEN, MEMORY, Progress, Reader
+from ..common.reader import HIDDEN, MEMORY, Reader
 from ..common.second_look import Changes, SecondLook
 from ..common.text import escape
-from .snapshot import Snapshot, Sums
 
 COLLAPSED = f"{THP}/khugepaged/pages_collapsed"
 
@@ -59,20 +59,45 @@ class ProcessChoice:
         return out
 
 
+@dataclass
+class Snapshot:
+    """What one look has read."""
+
+    folios: list[Folio]
+    processes: dict[int, str]  # names of those that map huge pages
+    left_out: Counter[str]  # what was read and is in no row, by reason
+    unread: Counter[str] = field(default_factory=Counter)  # what couldn't be read and could change the answer, by reason
+    names: dict[int, str] = field(default_factory=dict)  # of control groups, by inode
+    note: str = ""  # what a look from inside a PID namespace can't see
+    looked_at: int = 0
+    lacking: str = ""  # why the kernel's structures weren't read
+    others: int = 0  # anonymous base pages that aren't huge
+    sums: dict[str, int] = field(default_factory=dict)  # bytes of pages of PMD size, see `sums_of`
+    today: int | None = None  # max_ptes_none of the machine
+    collapsed: int | None = None  # huge pages that khugepaged has made since the machine's start
+    kernel: str = ""
+    at: str = ""
+    sampled: int = 0  # pages that were read twice
+    changed: int = 0  # of these, how many had changed
+    changed_pages: list[tuple[Folio | None, Folio | None]] = field(default_factory=list)  # these, at both readings
+    seconds: float = 0.0  # that the look took
+
+    @property
+    def locked_are_tried(self) -> bool:
+        """Whether this kernel's shrinker tries locked pages: before Linux 6.18 (mm/huge_memory.c: deferred_split_scan)."""
+        found = re.match(r"Linux ([0-9]{1,4})\.([0-9]{1,4})", self.kernel)
+        return found is not None and (int(found[1]), int(found[2])) < (6, 18)
+
+
 class SnapshotTaker:
     """Takes snapshots; the library of BPF programs is loaded once for all of them. `with_small`: huge pages below PMD size too;
-    `with_kernel`: queues, flags and pins by BPF; `all_queued`: as if each page of PMD size were still in its queue; `memory`: MiB that a
-    look keeps at most."""
+    `all_queued`: as if each page of PMD size were still in its queue; `memory`: MiB that a look keeps at most."""
 
-    def __init__(
-        self, with_small: bool = False, with_kernel: bool = True, all_queued: bool = False, memory: int = MEMORY,
-        progress: Progress = lambda what, done, of: None,
-    ) -> None:
-        self._with_small, self._all_queued, self._memory, self._progress = with_small, all_queued, memory, progress
-        self._kernel, self.lacking = KernelMemory(), "" if with_kernel else "not asked for"  # why the kernel's structures aren't read
+    def __init__(self, with_small: bool = False, all_queued: bool = False, memory: int = MEMORY) -> None:
+        self._with_small, self._all_queued, self._memory = with_small, all_queued, memory
+        self._kernel, self.lacking = KernelMemory(), ""  # why the kernel's structures aren't read
         try:
-            if with_kernel:
-                self._kernel.page_states([])
+            self._kernel.page_states([])
         except Unavailable as error:
             self.lacking = escape(first_line(error))
 
@@ -80,23 +105,22 @@ class SnapshotTaker:
         """Looks once. What can't be read is counted; a process that ends meanwhile isn't."""
         began = time.monotonic()
         choice.check()
-        reader = Reader(self._kernel, self._with_small, progress=self._progress, memory=self._memory, look=self._look)
+        reader = Reader(self._kernel, self._with_small, memory=self._memory, look=self._look)
         try:
             reader.read_processes(choice.find(reader.unread))
             if reader.denied and missing_capabilities("CAP_SYS_PTRACE"):
                 raise Unavailable(f"process {min(reader.denied)} can't be read: CAP_SYS_PTRACE is missing")
             reader.read_all()
             changes = SecondLook(reader).take()
-            with reader.timed("queues"):
-                keep_lasting_pins(reader.folios.values(), self._look)
+            keep_lasting_pins(reader.folios.values(), self._look)
         finally:
             reader.close()
         for folio in [*reader.folios.values(), *(before for before, _ in changes.pairs if before)]:
             if self._all_queued and folio.order == PMD_ORDER:
                 folio.is_queued = True
         snapshot = self._gather(reader, changes)
-        snapshot.note = namespace_note()
-        snapshot.sums.machine = machine_huge() if choice.everything and not snapshot.note else None
+        if choice.everything and not snapshot.note:
+            snapshot.sums["machine"] = machine_huge()
         snapshot.seconds = time.monotonic() - began
         return snapshot
 
@@ -114,8 +138,6 @@ class SnapshotTaker:
         for folio in folios:
             folio.mappings.sort()
         reader.unread += Counter({HIDDEN: sum(folio.known != folio.full for folio in folios)})
-        whole = [folio.known_pmd_mappings > 0 for folio in folios if folio.order == PMD_ORDER]
-        page = BASE << PMD_ORDER
         return Snapshot(
             folios=folios,
             processes={number: name_of(number) for number in sorted({m.process for folio in folios for m in folio.mappings})},
@@ -123,18 +145,27 @@ class SnapshotTaker:
             unread=reader.unread,
             looked_at=reader.looked_at,
             names=names_of_groups({folio.cgroup for folio in folios}),
+            note=namespace_note(),
             lacking=self.lacking,
             others=reader.others,
-            sums=Sums(by_pmd=reader.by_pmd * page, distinct=whole.count(True) * page, by_parts=whole.count(False) * page),
+            sums=sums_of(folios, reader.by_pmd),
             kernel=f"Linux {os.uname().release}",
             at=time.strftime("%Y-%m-%dT%H:%M:%SZ", time.gmtime()),
             changed_pages=changes.pairs,
             sampled=changes.sampled,
             changed=changes.changed,
-            spent=dict(reader.spent),
             today=number_in(PTES_NONE),
             collapsed=number_in(COLLAPSED),
         )
+
+
+def sums_of(folios: Iterable[Folio], by_pmd: int) -> dict[str, int]:
+    """Returns in bytes, of pages of PMD size: `by_pmd`: what the processes map by PMD entries, of which there are so many; `distinct`:
+    pages that one of them maps so; `by_parts`: pages that none does. A look at all processes adds `machine`, AnonHugePages of
+    /proc/meminfo."""
+    whole = [folio.known_pmd_mappings > 0 for folio in folios if folio.order == PMD_ORDER]
+    counts = {"by_pmd": by_pmd, "distinct": whole.count(True), "by_parts": whole.count(False)}
+    return {name: count * BASE << PMD_ORDER for name, count in counts.items()}
 
 
 def number_in(path: str) -> int | None:

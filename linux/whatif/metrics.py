@@ -10,8 +10,8 @@ from typing import Any
 from ..common.errors import InputFault
 from ..common.files import BASE, open_roots_folder, replace_file
 from ..common.text import escape
+from .predictor import label
 from .report import Report
-from .rows import label
 
 PREFIX = "thpwhatif"
 MARK = f"# HELP {PREFIX}_".encode()  # how each text begins

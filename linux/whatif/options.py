@@ -9,9 +9,9 @@ from typing import Callable
 from ..common.arguments import OneLineParser, seconds, tool_parser, whole
 from ..common.reader import MEMORY
 from ..common.text import escape
-from .rows import thresholds_of
-from .snapshot import NAME
+from .predictor import thresholds_of
 
+NAME = "thpwhatif"
 MOST_PROCESS = 1 << 22  # the kernel's limit of process numbers
 MOST_COUNT = 1000000  # rounds
 LONGEST = 1e6  # seconds
@@ -38,14 +38,12 @@ def parser() -> argparse.ArgumentParser:
     """Returns all commands and their options."""
     top = tool_parser(NAME, "What would the shrinker of transparent huge pages give back now?")
     commands = top.add_subparsers(dest="command", required=True, metavar="COMMAND", parser_class=OneLineParser)
-    memory, kernel, thresholds, as_json = (OneLineParser(add_help=False) for _ in range(4))  # of several commands
+    memory, thresholds, as_json = (OneLineParser(add_help=False) for _ in range(3))  # of several commands
     memory.add_argument("--memory", type=mebibytes(1, MOST_MEMORY), default=MEMORY, metavar="MIB", help="the limit of memory")
-    about = "guess queues and pins instead of reading them"
-    kernel.add_argument("--no-kernel", dest="with_kernel", action="store_false", help=about)
     about = "off and numbers from 0 to 511, joined by commas"
     thresholds.add_argument("--thresholds", type=thresholds_of, metavar="LIST", help=about)
     as_json.add_argument("--json", action="store_true", help="JSON instead of tables; of watch a line for each look")
-    choice = OneLineParser(add_help=False, parents=[memory, kernel])
+    choice = OneLineParser(add_help=False, parents=[memory])
     tables = OneLineParser(add_help=False, parents=[thresholds, as_json])
     process = whole(1, MOST_PROCESS)
     choice.add_argument("--pid", type=process, action="append", default=[], metavar="P", help="a process; repeatable")
@@ -55,7 +53,6 @@ def parser() -> argparse.ArgumentParser:
     choice.add_argument("--queued", choices=("seen", "all"), default="seen", help="all: as if each page were still in its queue")
     tables.add_argument("--by-process", action="store_true", help="a table by process, too")
     tables.add_argument("--by-cgroup", action="store_true", help="a table by control group, too")
-    tables.add_argument("--svg", metavar="FILE", help="a picture of the table")
     now = commands.add_parser("now", parents=[choice, tables], help="look, and print what each threshold would give back")
     now.set_defaults(files=[])
     snapshot = commands.add_parser("snapshot", parents=[choice], help="look, and write what was read")
@@ -72,35 +69,29 @@ def parser() -> argparse.ArgumentParser:
     watching.add_argument("--rounds", type=rounds, default=0, metavar="N", help="end after so many looks; 0: by SIGINT")
     watching.add_argument("--prometheus", metavar="FILE", help="write each look as metrics, replacing FILE")
     about = "known pages, or a command's, and then the real shrinker"
-    add_verify(commands.add_parser("verify", parents=[kernel, thresholds], help=about))
+    add_verify(commands.add_parser("verify", parents=[thresholds], help=about))
     add_policies(commands.add_parser("policies", parents=[as_json], help="a recorded journal under other thresholds and scans"))
     return top
 
 
 def add_policies(words: argparse.ArgumentParser) -> None:
     """Adds the options of policies."""
-    words.add_argument("journals", nargs="+", metavar="JOURNAL", help="of thprecord or thpsplit; - is standard input")
+    words.add_argument("journals", nargs="+", metavar="JOURNAL", help="of thprecord or thpsplit")
     words.add_argument("--threshold", default="recorded", metavar="LIST", help="recorded, off, numbers from 0 to 511")
-    when = "when: recorded, never, events:N, seconds:S, held:MIB"
-    words.add_argument("--scan", default="recorded,never", metavar="LIST", help=when)
-    words.add_argument("--take", default="recorded", metavar="N", help="pages that a scan takes: recorded, all, a number")
-    words.add_argument("--times", action="append", metavar="FILE", help="of a journal: seconds of each event; repeatable")
-    words.add_argument("--best", type=mebibytes(0.001, MOST_FREED), metavar="MIB", help="fewest splits within so much memory")
+    words.add_argument("--scan", default="recorded,never", metavar="LIST", help="when: recorded, never, seconds:S, held:MIB")
+    words.add_argument("--times", action="append", default=[], metavar="FILE", help="of a journal: seconds of each event; repeatable")
     words.add_argument("--checker", metavar="PATH", help="the thpcheck to run")
 
 
 def add_verify(words: argparse.ArgumentParser) -> None:
     """Adds the options of verify."""
-    micros, after = whole(0, 10**9), seconds(0, LONGEST)
+    after = seconds(0, LONGEST)
     words.add_argument("--rounds", type=whole(1, MOST_COUNT), default=1, metavar="N", help="how often each threshold is tried")
     words.add_argument("--seed", type=whole(0, 10**17), default=1, metavar="S")
     words.add_argument("--pages", type=whole(1, 4000), default=40, metavar="N", help="known pages of a trial, at most 4000")
-    words.add_argument("--change", type=micros, default=0, metavar="MICROS", help="known pages that change so often")
     words.add_argument("--after", type=after, default=5.0, metavar="SECONDS", help="for which the command runs first")
     words.add_argument("--user", metavar="NAME", help="runs the command; if not given, the caller of sudo")
     words.add_argument("--wait", action="store_true", help="wait until another tool that changes the machine has ended")
     words.add_argument("--running", action="store_true", help="don't hold the pages still until the comparison")
-    words.add_argument("--enabled", choices=("always", "madvise"), help="transparent_hugepage/enabled meanwhile")
     words.add_argument("--keep", default="", metavar="FOLDER", help="write what each trial saw there")
-    words.add_argument("--verbose", action="store_true", help="a line for each trial")
     words.add_argument("words", nargs="*", metavar="-- COMMAND", help="a command to try instead of known pages")

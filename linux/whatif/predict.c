@@ -1,16 +1,13 @@
-/* Predicts what a scan of the shrinker does with huge pages, over libthp; for linux/whatif/predictor.py.
+/* Predicts what a scan of the shrinker does with huge pages, over libthp; for linux/whatif/library.py.
  *
  * Each page is predicted by itself. A counting node of libthp gets one page and is brought to the page's state by calls, each of which
  * stands for what the kernel did; then the node is scanned once. How often a subpage is mapped decides nothing that is reported, only
  * whether PTEs map it, and whether PMD entries map the page: each is done once.
  *
- * Where the kernel differs from the model, the state is that of the kernel's rule, so no number is corrected afterwards:
- *  - A page that is in no queue is written whole and scanned before all else. The scan finds it in use and drops it, as the kernel did
- *    (mm/huge_memory.c: deferred_split_scan, deferred_split_folio).
- *  - With max_ptes_none 511 no page is underused, and none with a threshold that its subpages can't exceed (mm/huge_memory.c:
- *    thp_underused). A page that isn't partly mapped then counts as data. A partly mapped one keeps its zeros, since its split drops them
- *    with any threshold (mm/migrate.c: try_to_map_unused_to_zeropage), while a node without a threshold never drops them.
- *  - A page that was partly mapped once and is mapped whole again is still split: a mapping is removed and added again.
+ * Where the kernel differs from the model, the state is that of the kernel's rule, so no number is corrected afterwards (docs/WHATIF.md has
+ * all): a scan drops a page that is in no queue first (mm/huge_memory.c: deferred_split_scan). With max_ptes_none 511, or a threshold that
+ * its subpages can't exceed, no page is underused (thp_underused): it counts as data, unless it is partly mapped; then a split drops its
+ * zeros with any threshold (mm/migrate.c: try_to_map_unused_to_zeropage), while a node without a threshold never drops them.
  */
 #include <stdbool.h>
 #include <thp.h>
@@ -18,16 +15,13 @@
 enum { WORDS = 8, CALLER = 0, OFF = 511 };
 enum { SPLIT = 1, UNDERUSED = 2, PINNED = 4 };
 
-/* A page. linux/whatif/page_plan.py packs it. In a set, subpage i is bit i % 64 of word i / 64. */
+/* A page. linux/whatif/library.py packs it. In a set, subpage i is bit i % 64 of word i / 64. */
 struct page {
     uint64_t zero[WORDS];   /* zero-filled, and a split drops them */
     uint64_t mapped[WORDS]; /* mapped by PTEs */
     uint8_t order;
     uint8_t is_whole; /* mapped by PMD entries */
-    uint8_t is_partly;
-    uint8_t is_queued;
-    uint8_t is_pinned;
-    uint8_t unused[3];
+    uint8_t is_partly, is_queued, is_pinned; /* and three unused bytes */
 };
 
 struct fate {

@@ -1,71 +1,89 @@
-"""Predicts what the shrinker would do with the pages of looks, by libthp in this process (predict.c)."""
+"""Predicts what the shrinker would do with the pages of looks: rows, each the sums of pages at a threshold.
+
+A row of threshold T is what a reclaim that drains the queues would do with max_ptes_none T. `off` is 511, with
+which the kernel takes no page as underused (mm/huge_memory.c: thp_underused) and splits partly mapped pages alone.
+"""
 
 from __future__ import annotations
 
-import ctypes
+import re
 from array import array
 from collections import Counter, defaultdict
 from contextlib import suppress
-from functools import lru_cache
-from typing import Any, Iterable, Mapping, Sequence
+from dataclasses import dataclass
+from typing import Any, Mapping, Sequence
 
-from ..common.errors import RunFailed, Unavailable
+from ..common.errors import InputFault
 from ..common.folios import Folio
-from ..common.helpers import helper
 from ..common.text import escape
-from .page_plan import SET, NotPredictable, plan_page
-from .rows import OFF, Moved, Row, Share, label
-from .snapshot import Snapshot
+from .library import PINNED, SET, SPLIT, UNDERUSED, Library, NotPredictable, load_library, plan_page
+from .look import Snapshot
 
-SPLIT, UNDERUSED, PINNED = 1, 2, 4  # outcomes, as predict.c has them
-FATE = 8  # bytes of a fate
+FRAMES_A_MEBIBYTE = 256
+OFF = 511
+DEFAULT = (OFF, 0, 16, 64, 128, 256, 409, 510)
 
 
-class Library:
-    """predict.c and policies.c, compiled with libthp, at a path. Unavailable where it can't be loaded."""
+def label(threshold: int) -> str:
+    """Returns a threshold as users write it."""
+    return "off" if threshold == OFF else str(threshold)
 
-    def __init__(self, path: str) -> None:
-        try:
-            self.calls = ctypes.CDLL(path)
-        except OSError as error:
-            raise Unavailable(f"the helper {escape(path)} can't be loaded: {escape(str(error))}") from error
-        pointer, number = ctypes.c_void_p, ctypes.c_uint32
-        types: dict[str, list[Any]] = {  # of the result and of the words of a call
-            "predict": [number, pointer, number, number, pointer, pointer, pointer],
-            "words_of": [ctypes.c_char_p, number],
-            "start_run": [pointer, number, number, number, number, ctypes.c_double, number],
-            "follow_events": [number, pointer, pointer, number, pointer],
-            "end_run": [None, pointer, pointer],
+
+def thresholds_of(text: str) -> list[int]:
+    """Returns thresholds from text: `off` or numbers from 0 to 511, joined by commas; 511 is `off`. InputFault on others."""
+    out = []
+    for word in text.split(","):
+        if word != "off" and not (re.fullmatch(r"0|[1-9][0-9]{0,2}", word) and int(word) <= OFF):
+            raise InputFault(f"threshold '{escape(word)[:40]}': 'off' or a number from 0 to {OFF}")
+        out.append(OFF if word == "off" else int(word))
+    return out
+
+
+def with_today(thresholds: Sequence[int], today: int | None) -> list[int]:
+    """`off` first, then ascending, each once; the machine's own threshold among them."""
+    return sorted({*thresholds, *(() if today is None else (today,))}, key=lambda threshold: (threshold != OFF, threshold))
+
+
+@dataclass(frozen=True)
+class Row:
+    """Sums of pages at a threshold."""
+
+    threshold: int
+    pages: int
+    split: int
+    underused: int
+    pinned: int  # pages whose split fails
+    frames: int  # given back, base pages
+
+    @property
+    def mebibytes(self) -> float:
+        """What is given back."""
+        return self.frames / FRAMES_A_MEBIBYTE
+
+    def to_json(self, today: int | None) -> dict[str, Any]:
+        """Returns it as a JSON object."""
+        return {
+            "threshold": self.threshold if self.threshold != OFF else "off",
+            "today": self.threshold == today,
+            "pages": self.pages,
+            "split": self.split,
+            "partly_mapped": self.split - self.underused,
+            "underused": self.underused,
+            "pinned": self.pinned,
+            "frames_back": self.frames,
+            "mebibytes_back": round(self.mebibytes, 3),
+            "kept": self.pages - self.split,
         }
-        for name, (result, *words) in types.items():
-            call = getattr(self.calls, name)
-            call.restype, call.argtypes = result, words
-
-    def words(self, code: int) -> str:
-        """Returns a code of libthp in words."""
-        return str(self.calls.words_of(code).decode("ascii"))
-
-    def predict(
-        self, records: Sequence[bytes], frames: Sequence[int], threshold: int, with_given: bool = False
-    ) -> tuple[bytes, bytes]:
-        """Returns the fates of packed pages, each an outcome and a number of frames of four bytes; `with_given`: and for each the
-        set of subpages whose frames come back. RunFailed, with the page's first frame, where libthp refuses a call."""
-        fates, failed = ctypes.create_string_buffer(len(records) * FATE), ctypes.c_uint32()
-        given = ctypes.create_string_buffer(len(records) * SET) if with_given else None
-        code = self.calls.predict(b"".join(records), len(records), threshold, fates, given, ctypes.byref(failed))
-        if code:
-            why = f"can't be predicted at {label(threshold)}: {self.words(code)}"
-            raise RunFailed(f"the huge page of frame {frames[failed.value]} {why}")
-        return fates.raw, given.raw if given else b""
 
 
-@lru_cache(maxsize=None)
-def load_library() -> Library:
-    """Returns the library, loaded once. Unavailable where it isn't built, or can't be loaded."""
-    try:
-        return Library(helper("predict.so"))
-    except Unavailable as error:
-        raise Unavailable(f"no libthp (a release has it; in a checkout: make c, then make -C linux): {error}") from error
+@dataclass
+class Share:
+    """What one process has of a prediction."""
+
+    pages: int = 0
+    split: int = 0
+    frames: int = 0
+    lost: int = 0  # PMD mappings
 
 
 class Predictor:
@@ -74,46 +92,51 @@ class Predictor:
 
     def __init__(self, *snapshots: Snapshot, library: Library | None = None) -> None:
         self.folios: list[Folio] = []  # that can be predicted
+        self.plans = array("I")  # the numbers of their plans
         self.names = {number: name for snapshot in snapshots for number, name in snapshot.processes.items()}
         self._library = library or load_library()
-        self._locked_are_tried = any(snapshot.locked_are_tried for snapshot in snapshots)
         self._records: dict[bytes, int] = {}  # packed plans, and their numbers
-        self._firsts: list[int] = []  # by number: the frame of a page
-        self.plans = array("I")  # the numbers of the folios' plans
-        self._groups: dict[str, Counter[int]] = {}  # pages by number, by control group
+        self._frames: list[int] = []  # by number: the frame of a page
+        self._groups: defaultdict[str, Counter[int]] = defaultdict(Counter)  # pages by number, by control group
         self._owners: Counter[tuple[int, tuple[tuple[int, int], ...]]] = Counter()
-        self._fates: dict[int, array[int]] = {}  # by threshold: an outcome and a number of frames of each record
+        self._changed: list[list[int | None]] = []  # plans of pages that changed, at both readings
+        self._fates: dict[int, array[int]] = {}  # by threshold: an outcome and a number of frames of each plan
         for snapshot in snapshots:
+            tried = snapshot.locked_are_tried
             for folio in snapshot.folios:
                 try:
-                    number = self._number(folio, snapshot.locked_are_tried)
+                    self.plans.append(self._number(folio, tried))
                 except NotPredictable as why:
                     snapshot.left_out[str(why)] += 1
                     continue
                 self.folios.append(folio)
-                self.plans.append(number)
                 name = snapshot.names.get(folio.cgroup, f"inode {folio.cgroup}" if folio.cgroup else "none")
-                self._groups.setdefault(name, Counter())[number] += 1
+                self._groups[name][self.plans[-1]] += 1
+            self._changed += [[self._number_or_none(folio, tried) for folio in pair] for pair in snapshot.changed_pages]
 
     def _number(self, folio: Folio, locked_are_tried: bool) -> int:
         """Returns the number of a page's plan, a new one where no page had it. Raises NotPredictable."""
         plan = plan_page(folio, locked_are_tried).pack()
         number = self._records.setdefault(plan, len(self._records))
-        if number == len(self._firsts):
-            self._firsts.append(folio.frame)
+        if number == len(self._frames):
+            self._frames.append(folio.frame)
         return number
+
+    def _number_or_none(self, folio: Folio | None, locked_are_tried: bool) -> int | None:
+        with suppress(NotPredictable):
+            return self._number(folio, locked_are_tried) if folio else None
+        return None
 
     def _fate(self, threshold: int, plan: int) -> tuple[int, int]:
         """Returns the outcome of pages with a plan of this number, and how many frames come back of each."""
-        fates = self._fates.setdefault(threshold, array("I"))
-        known = len(fates) // 2
-        if plan >= known:
-            fates.frombytes(self._library.predict(list(self._records)[known:], self._firsts[known:], threshold)[0])
-        return fates[2 * plan], fates[2 * plan + 1]
+        if threshold not in self._fates:
+            self._fates[threshold], _ = self._library.predict(list(self._records), self._frames, threshold)
+        outcome, frames = self._fates[threshold][2 * plan : 2 * plan + 2]
+        return outcome, frames
 
-    def frames_back(self, threshold: int, plan: int) -> int | None:
-        """Returns how many frames come back of a page with a plan of this number; None where it stays whole."""
-        outcome, frames = self._fate(threshold, plan)
+    def frames_back(self, threshold: int, plan: int | None) -> int | None:
+        """Returns how many frames come back of a page with a plan of this number; None where it stays whole, or there is none."""
+        outcome, frames = (0, 0) if plan is None else self._fate(threshold, plan)
         return frames if outcome & SPLIT else None
 
     def _row(self, threshold: int, counts: Mapping[int, int]) -> Row:
@@ -156,42 +179,29 @@ class Predictor:
 
     def frames_given(self, threshold: int) -> dict[int, int]:
         """Returns of each page that is split the subpages whose frames come back, by frame."""
-        given = self._library.predict(list(self._records), self._firsts, threshold, True)[1]
+        given = self._library.predict(list(self._records), self._frames, threshold, True)[1]
         sets = [int.from_bytes(given[at : at + SET], "little") for at in range(0, len(given), SET)]
         pairs = zip(self.folios, self.plans)
         return {folio.frame: sets[plan] for folio, plan in pairs if self.frames_back(threshold, plan) is not None}
 
-    def moved_rows(self, pairs: Iterable[tuple[Folio | None, Folio | None]], thresholds: Sequence[int]) -> dict[int, Moved]:
-        """Returns for each threshold by how many split pages and frames a row differs at most between two readings of the same
-        pages. None: it wasn't a huge page then."""
-
-        def number_of(folio: Folio | None) -> int | None:
-            with suppress(NotPredictable):
-                return self._number(folio, self._locked_are_tried) if folio else None
-            return None
-
-        numbers = [(number_of(first), number_of(second)) for first, second in pairs]
-        out: dict[int, Moved] = {}
+    def moved_rows(self, thresholds: Sequence[int]) -> dict[int, tuple[int, int]]:
+        """Returns for each threshold by how many split pages and frames a row differs at most between the two readings of the pages
+        that changed."""
+        out = {}
         for threshold in thresholds:
-            back = [[None if number is None else self.frames_back(threshold, number) for number in pair] for pair in numbers]
+            back = [[self.frames_back(threshold, number) for number in pair] for pair in self._changed]
             split = sum((first is None) != (second is None) for first, second in back)
-            out[threshold] = Moved(split, sum(abs((first or 0) - (second or 0)) for first, second in back))
+            out[threshold] = split, sum(abs((first or 0) - (second or 0)) for first, second in back)
         return out
 
     def find_highest(self, frames: int) -> int | None:
         """Returns the highest threshold that gives at least so many frames back, found by halving: a lower threshold splits
         all that a higher one does. None where not even 0 gives so much."""
-
-        def gives(threshold: int) -> bool:
-            return self.run([threshold])[0].frames >= frames
-
-        if gives(OFF):
-            return OFF
-        low, high = 0, OFF
-        while high - low > 1:  # `high` doesn't give so much
+        low, high = -1, OFF + 1  # `high` doesn't give so much
+        while high - low > 1:
             middle = (low + high) // 2
-            low, high = (middle, high) if gives(middle) else (low, middle)
-        return low if gives(low) else None
+            low, high = (middle, high) if self.run([middle])[0].frames >= frames else (low, middle)
+        return low if low >= 0 else None
 
 
 def owners_of(folio: Folio) -> tuple[tuple[int, int], ...]:

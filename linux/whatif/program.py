@@ -8,36 +8,36 @@ import os
 import sys
 import time
 from contextlib import contextmanager, suppress
-from typing import Callable, Iterator, NoReturn, Sequence, TextIO
+from itertools import count
+from typing import Callable, Iterator, NoReturn, TextIO
 
-from ..common.errors import DIFFERS, DONE, InputFault, Unavailable, signals_wait
-from ..common.files import NewFile, named_faults
+from ..common.errors import DONE, InputFault, Unavailable, signals_wait
+from ..common.files import NewFile, open_input
 from ..common.tool import run_tool
-from .look import ProcessChoice, SnapshotTaker
-from .options import parser
-from .predictor import Predictor, load_library
-from .report import Report, cost_table, group_table, last_line, picture, process_table, report_of, shares_json, table
-from .rows import FRAMES_A_MEBIBYTE, OFF, label
-from .snapshot import NAME, Snapshot, list_notes
-
-SLOW = 1.0  # seconds after which progress is shown
+from ..common.user import give_up_rights, user_for, user_without_rights
+from .library import load_library
+from .look import ProcessChoice, Snapshot, SnapshotTaker
+from .options import NAME, parser
+from .predictor import FRAMES_A_MEBIBYTE, OFF, Predictor, label
+from .report import (
+    Report, cost_table, group_table, last_line, lines_of_look, process_table, report_of, shares_json, table,
+)
 
 
 @contextmanager
-def open_output(path: str | None) -> Iterator[TextIO | None]:
-    """Gives the new file of a path, opened before the work, so that a path that can't be used is reported first; nothing where there is
-    no path or it is `-`. The file is removed again where the work fails, or writes nothing. InputFault where it can't be written."""
-    if path is None or path == "-":
-        yield None
+def open_output(path: str) -> Iterator[TextIO]:
+    """Gives the new file of a path, opened before the work, so that a path that can't be used is reported first, or standard output
+    (`-`). The file is removed again where the work fails. InputFault where it can't be made."""
+    if path == "-":
+        yield sys.stdout
         return
     out, is_done = None, False
     try:
         with signals_wait():
             out = NewFile(path)
         yield out.file
-        with named_faults(path, "can't be written"):
-            out.file.flush()
-        is_done = os.fstat(out.file.fileno()).st_size > 0
+        out.file.flush()
+        is_done = True
     finally:
         if out and not is_done:
             out.remove()
@@ -52,6 +52,12 @@ def demand_root() -> None:
         raise Unavailable("not root: frame numbers, other processes' memory and BPF are for root")
 
 
+def drop_rights() -> None:
+    """Makes this process a user without any right, for good: what it reads from here on comes from others."""
+    user_without_rights().enter()
+    give_up_rights()
+
+
 def choose(options: argparse.Namespace) -> ProcessChoice:
     """Returns what is to be looked at. InputFault where nothing is selected, Unavailable where nothing can be looked at."""
     if not (options.pid or options.cgroup or options.all):
@@ -63,39 +69,31 @@ def choose(options: argparse.Namespace) -> ProcessChoice:
 
 
 def taker(options: argparse.Namespace) -> SnapshotTaker:
-    """Returns what takes looks with these options; on a terminal progress is shown, from the first second on."""
-    began = time.monotonic()
-
-    def show(what: str, done: int, of: int) -> None:
-        if sys.stderr.isatty() and options.command != "watch" and time.monotonic() - began > SLOW:
-            print(f"\r{what}: {done} of {of}\033[K", end="\n" if done == of else "", file=sys.stderr, flush=True)
-
-    return SnapshotTaker(options.orders, options.with_kernel, options.queued == "all", int(options.memory), show)
+    """Returns what takes looks with these options."""
+    return SnapshotTaker(options.orders, options.queued == "all", int(options.memory))
 
 
 def take_snapshots(options: argparse.Namespace, choice: ProcessChoice | None) -> list[Snapshot]:
-    """Looks, or reads the snapshots of files where no processes are chosen."""
+    """Looks, or where no processes are chosen reads the snapshots of files, without rights."""
     if choice:
         return [taker(options).take(choice)]
     from .stored import StoredReader
 
-    reader = StoredReader(int(options.memory))
-    return [reader.read(path) for path in options.files]
+    reader, files = StoredReader(int(options.memory)), [(path, open_input(path)) for path in options.files]
+    drop_rights()
+    return [reader.read(path, file) for path, file in files]
 
 
 def command_tables(options: argparse.Namespace) -> int:
     """Prints the tables, or the JSON object, of a look or of stored ones."""
     choice = None if options.files else choose(options)
     load_library()
-    with open_output(options.svg) as svg:
-        snapshots = take_snapshots(options, choice)
-        predictor = Predictor(*snapshots)
-        report = report_of(predictor, snapshots, options.thresholds)
-        if svg:
-            svg.write(picture(report.rows, report.today))
-        if not predictor.folios:
-            print("no huge pages are mapped here", file=sys.stderr)
-        print(text_of(options, predictor, report))
+    snapshots = take_snapshots(options, choice)
+    predictor = Predictor(*snapshots)
+    report = report_of(predictor, snapshots, options.thresholds)
+    if not predictor.folios:
+        print("no huge pages are mapped here", file=sys.stderr)
+    print(text_of(options, predictor, report))
     return report.status
 
 
@@ -110,30 +108,27 @@ def text_of(options: argparse.Namespace, predictor: Predictor, report: Report) -
             parts["by_process"] = {label(each): shares_json(found, predictor.names) for each, found in shares.items()}
         if groups:
             parts["by_cgroup"] = {name: [row.to_json(report.today) for row in rows] for name, rows in groups.items()}
-        return json.dumps(report.to_json(parts, is_look=not options.files), indent=1)
+        return json.dumps(report.to_json(parts), indent=1)
     tables = []
     if predictor.folios:
         tables.append(table(report.rows, report.today))
         tables += [process_table(shares, predictor.names)] if options.by_process else []
         tables += [group_table(groups)] if options.by_cgroup else []
-    notes = report.warnings() if options.files else list_notes(report.snapshots[0], report.moved)
-    return "\n".join([*notes, *(["\n\n".join(tables)] if tables else []), last_line(report.left_out)])
+    lines = [] if options.files else lines_of_look(report.snapshots[0])
+    return "\n".join([*lines, *report.warnings(), *(["\n\n".join(tables)] if tables else []), last_line(report.left_out)])
 
 
 def command_snapshot(options: argparse.Namespace) -> int:
     """Looks, and writes what was read."""
-    from .stored import json_parts
+    from .stored import json_lines
 
     choice = choose(options)
     with open_output(options.output) as out:
         snapshot = taker(options).take(choice)
-        print("\n".join(list_notes(snapshot) + [last_line(snapshot.left_out)]), file=sys.stderr)
-        if out is None:
-            sys.stdout.writelines(json_parts(snapshot))
-        else:
-            with named_faults(options.output, "can't be written"):
-                out.writelines(json_parts(snapshot))
-    return Report([snapshot]).status
+        report = Report([snapshot])
+        print("\n".join([*lines_of_look(snapshot), *report.warnings(), last_line(snapshot.left_out)]), file=sys.stderr)
+        out.writelines(json_lines(snapshot))
+    return report.status
 
 
 def command_target(options: argparse.Namespace) -> int:
@@ -148,9 +143,8 @@ def command_target(options: argparse.Namespace) -> int:
     report = report_of(predictor, snapshots, [found or 0])
     row, shares = report.rows[0], predictor.by_process(found or 0)
     if options.json:
-        rest = report.to_json({"cost": shares_json(shares, predictor.names)})
-        out = {"asked": options.mebibytes, "reached": found is not None, "row": row.to_json(None)}
-        print(json.dumps({**out, **{name: rest[name] for name in ("cost", "could_move", "unread")}}, indent=1))
+        parts = {"asked": options.mebibytes, "reached": found is not None, "cost": shares_json(shares, predictor.names)}
+        print(json.dumps(report.to_json(parts), indent=1))
         return report.status
     if found is None:
         print(f"no threshold gives back {options.mebibytes:g} MiB: 0 gives {row.mebibytes:.1f} MiB. What 0 costs:")
@@ -164,9 +158,8 @@ def command_target(options: argparse.Namespace) -> int:
 
 
 def command_watch(options: argparse.Namespace) -> int:
-    """Looks again and again; the status is that of the last look."""
+    """Looks again and again."""
     from .metrics import write_metrics
-    from .watch import watch
 
     choice = choose(options)
     load_library()
@@ -181,12 +174,34 @@ def command_watch(options: argparse.Namespace) -> int:
             write_metrics(options.prometheus, report)
         return report
 
-    return watch(look_once, options.seconds, options.rounds, as_json=options.json)
+    return watch(look_once, options.seconds, options.rounds, options.json)
+
+
+def watch(look: Callable[[], Report], seconds: float, rounds: int, as_json: bool = False) -> int:
+    """Looks every so many seconds, `rounds` times (0: until it is interrupted), and prints each look as a line, `as_json`: a JSON object.
+    Returns the status of the last look."""
+    former: int | None = None  # huge pages that khugepaged had collapsed by the look before
+    status = DONE
+    with suppress(KeyboardInterrupt):  # the way to end it
+        for number in count(1):
+            began, one = time.monotonic(), look()
+            collapsed, status = one.snapshots[0].collapsed, one.status
+            since = None if collapsed is None or former is None else collapsed - former
+            former, notes = collapsed, [last_line(one.left_out)] if one.left_out else []
+            notes += [*one.warnings(), *([f"khugepaged collapsed {since} huge pages since the last look"] if since else [])]
+            back = ", ".join(f"{label(row.threshold)} {row.mebibytes:.1f}" for row in one.rows)
+            text = "; ".join([f"{time.strftime('%H:%M:%S')} {one.rows[0].pages} pages", f"MiB back: {back}", *notes])
+            if as_json:
+                text = json.dumps({"look": number, **one.to_json(), "collapsed": since, "notes": notes})
+            print(text, flush=True)
+            if number == rounds:
+                break
+            time.sleep(max(0.0, seconds - (time.monotonic() - began)))
+    return status
 
 
 def command_verify(options: argparse.Namespace) -> int:
     """Tries predictions."""
-    from ..common.user import user_for
     from .verify import verify
 
     demand_root()
@@ -195,35 +210,22 @@ def command_verify(options: argparse.Namespace) -> int:
 
 
 def command_policies(options: argparse.Namespace) -> int:
-    """Tries policies on journals."""
+    """Tries policies on journals, which are read without rights."""
     from ..common.checker import find_checker
-    from .policies import IllegalJournal, RecordedJournal, best_line, best_of, policies_of, policy_table, try_policies
+    from .policies import open_recordings, outcomes_of, policies_of, policy_table
 
-    policies, is_timed = policies_of(options.threshold, options.scan, options.take), bool(options.times)
-    times: Sequence[str | None] = options.times or [None] * len(options.journals)
-    if len(times) != len(options.journals):
-        raise InputFault(f"{len(times)} files of times for {len(options.journals)} journals")
-    if not is_timed and any(policy.when == "seconds" for policy in policies):
-        raise InputFault("seconds:S needs the times of the events (--times FILE)")
+    policies = policies_of(options.threshold, options.scan)
     load_library()
-    checker = find_checker(options.checker)
-    try:
-        recordings = [RecordedJournal(path, file, checker) for path, file in zip(options.journals, times)]
-    except IllegalJournal as error:
-        print(f"{NAME}: {error}", file=sys.stderr)
-        return DIFFERS
-    outcomes = try_policies(policies, recordings, is_timed)
-    best = best_of(outcomes, options.best) if options.best else None
-    has_contents = all(recording.has_contents for recording in recordings) or not any(each.threshold.isdigit() for each in policies)
+    recordings = open_recordings(options.journals, options.times, find_checker(options.checker))
+    drop_rights()
+    outcomes = outcomes_of(policies, recordings)
+    has_contents = all(recording.has_contents for recording in recordings)
     if options.json:
-        out = {"policies": outcomes, "contents_recorded": has_contents, **({"best": best} if options.best else {})}
-        print(json.dumps(out, indent=1))
+        print(json.dumps({"policies": outcomes, "contents_recorded": has_contents}, indent=1))
         return DONE
     print(policy_table(outcomes))
-    if not has_contents:
+    if not has_contents and any(policy.threshold.isdigit() for policy in policies):
         print("no contents are recorded: each subpage counts as zero-filled, so each number splits the same pages")
-    if options.best:
-        print(best_line(best, options.best))
     return DONE
 
 

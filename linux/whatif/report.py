@@ -1,4 +1,4 @@
-"""What looks give: rows, what is in none of them, what was not read, and the status; as tables, as JSON, and as a picture."""
+"""What looks give: rows, what is in none of them, what was not read, and the status; as tables and as JSON."""
 
 from __future__ import annotations
 
@@ -8,19 +8,16 @@ from dataclasses import dataclass, field
 from typing import Any, Mapping, Sequence
 
 from ..common.errors import DONE, INCONCLUSIVE
-from .predictor import Predictor
-from .rows import DEFAULT, FRAMES_A_MEBIBYTE, OFF, Moved, Row, Share, label, with_today
-from .snapshot import Snapshot, counted, guess_of, warnings
+from ..common.files import BASE, PMD_ORDER
+from .look import Snapshot
+from .predictor import DEFAULT, FRAMES_A_MEBIBYTE, Predictor, Row, Share, label, with_today
 
 HEAD = {
     "threshold": "threshold", "split": "pages split", "partly_mapped": "partly mapped", "underused": "underused", "pinned": "pinned",
     "frames_back": "frames back", "mebibytes_back": "MiB back", "kept": "pages kept",
 }
 """The headings of a table, by the names of JSON."""
-WIDTH, HEIGHT, LEFT, RIGHT, TOP, BOTTOM = 720, 384, 64, 16, 40, 80
-STEPS = 5  # of the axis
-PARTLY, UNDERUSED, TODAY = "#4c78a8", "#f58518", "#e45756"
-LEGEND = {PARTLY: "partly mapped pages", UNDERUSED: "underused ones, too", TODAY: "the machine's setting"}
+SHOWN = 4  # reasons in a line
 
 
 @dataclass
@@ -29,8 +26,7 @@ class Report:
 
     snapshots: Sequence[Snapshot]
     rows: list[Row] = field(default_factory=list)
-    moved: dict[int, Moved] = field(default_factory=dict)  # how far each row could differ: pages changed while they were read
-    runs: float = 0.0  # seconds of the prediction
+    moved: dict[int, tuple[int, int]] | None = None  # by how many split pages and frames each row could differ, since pages changed
     ended: float = field(default_factory=time.time)  # seconds since 1970
 
     @property
@@ -54,40 +50,79 @@ class Report:
         return INCONCLUSIVE if self.unread else DONE
 
     def warnings(self) -> list[str]:
-        """Returns why the numbers may be off, a line each."""
-        return [line for snapshot in self.snapshots for line in warnings(snapshot, self.moved)]
+        """Returns why the rows may be off, a line each: what a look couldn't see, and pages that changed while they were read, with how
+        far each row could differ."""
+        lines = []
+        for look in self.snapshots:
+            lines += [look.note] if look.note else []
+            if look.lacking:
+                lines.append(f"queues and pins weren't read ({look.lacking}): a guess, each page is taken as queued and not pinned")
+            lines += [f"NOT READ: {text}" for text in counted(look.unread)]
+            if look.changed:
+                moved = [f"{label(t)} by {m[0]} pages, {m[1]} frames" for t, m in (self.moved or {}).items() if any(m)]
+                could = "" if self.moved is None else f"; rows that could move: {', '.join(moved) or 'none'}"
+                lines.append(f"WARNING: {look.changed} of {look.sampled} huge pages that were read twice had changed meanwhile{could}")
+        return lines
 
-    def notes(self) -> list[str]:
-        """Returns what a reader of one look's rows should know, a line each."""
-        one, left_out = self.snapshots[0], self.left_out
-        return [*filter(None, (one.note, guess_of(one), last_line(left_out) if left_out else "")), *self.warnings()]
-
-    def to_json(self, parts: Mapping[str, object] | None = None, is_look: bool = True) -> dict[str, Any]:
-        """Returns it as a JSON object, with more parts, and with what there is about the look itself."""
+    def to_json(self, parts: Mapping[str, object] | None = None) -> dict[str, Any]:
+        """Returns it as a JSON object, with more parts, and with what there is about the look itself, if it is one."""
+        moved = {label(t): {"split": each[0], "frames_back": each[1]} for t, each in (self.moved or {}).items() if any(each)}
         out: dict[str, Any] = {
-            "rows": [row.to_json(self.today) for row in self.rows],
-            "could_move": {label(t): {"split": each.split, "frames_back": each.frames} for t, each in self.moved.items() if any(each)},
-            "left_out": self.left_out,
-            "unread": self.unread,
-            **(parts or {}),
+            "rows": [row.to_json(self.today) for row in self.rows], "could_move": moved, "left_out": self.left_out,
+            "unread": self.unread, **(parts or {}),
         }
-        one, seconds = self.snapshots[0], {"runs": self.runs}
-        if is_look:
-            out["looked_at"], out["note"], out["lacking"] = one.looked_at, one.note, one.lacking
-            out["queues_read"], out["read_twice"], out["of_these_changed"] = not one.lacking, one.sampled, one.changed
-            out["at"], out["kernel"], out["sums"] = one.at, one.kernel, vars(one.sums)
-            seconds = {**one.spent, "look": one.seconds, "runs": self.runs}
-        return {**out, "seconds": {step: round(value, 3) for step, value in seconds.items()}}
+        one = self.snapshots[0]
+        if len(self.snapshots) == 1:
+            out.update(
+                looked_at=one.looked_at, note=one.note, lacking=one.lacking, queues_read=not one.lacking, read_twice=one.sampled,
+                of_these_changed=one.changed, at=one.at, kernel=one.kernel, sums=one.sums, seconds=round(one.seconds, 3),
+            )
+        return out
 
 
 def report_of(predictor: Predictor, snapshots: Sequence[Snapshot], given: Sequence[int] | None) -> Report:
     """Returns the report of these snapshots, at the thresholds that are given, or at some with the machine's own."""
-    began, report = time.monotonic(), Report(snapshots)
+    report = Report(snapshots)
     thresholds = with_today(given or DEFAULT, None if given else report.today)
-    report.rows = predictor.run(thresholds)
-    report.moved = predictor.moved_rows([pair for snapshot in snapshots for pair in snapshot.changed_pages], thresholds)
-    report.runs = time.monotonic() - began
+    report.rows, report.moved = predictor.run(thresholds), predictor.moved_rows(thresholds)
     return report
+
+
+def lines_of_look(snapshot: Snapshot) -> list[str]:
+    """Returns how much a look has read, a line each."""
+    folios, sums = snapshot.folios, snapshot.sums
+    whole, size = sum(folio.order == PMD_ORDER for folio in folios), sum(BASE << folio.order for folio in folios)
+    by_pmd, by_parts = (mebibytes(sums.get(name, 0)) for name in ("by_pmd", "by_parts"))
+    lines = [
+        f"{len(folios)} huge pages ({whole} of PMD size), {mebibytes(size)} MiB, "
+        f"of {len(snapshot.processes)} processes; {mebibytes(snapshot.others * BASE)} MiB of other anonymous pages",
+        f"mapped by PMD entries: {by_pmd} MiB; mapped by parts alone: {by_parts} MiB",
+    ]
+    if "machine" in sums:
+        count = f"by the kernel's own count {mebibytes(sums['machine'])} MiB"
+        lines.append(f"whole machine, each page once: {mebibytes(sums.get('distinct', 0))} MiB, {count}")
+    if not snapshot.lacking:
+        states = ("queued", "is_queued"), ("partly mapped", "is_partly"), ("pinned", "pins"), ("locked", "is_locked")
+        lines.append(", ".join(f"{word} {sum(bool(getattr(folio, name)) for folio in folios)}" for word, name in states))
+    return lines
+
+
+def counted(reasons: Mapping[str, int]) -> list[str]:
+    """Returns how often there is each reason, the most frequent first; a process is one."""
+    some = sorted(((why, count) for why, count in reasons.items() if count), key=lambda item: (-item[1], item[0]))
+    return [why if why.startswith("process ") else f"{count} {why}" for why, count in some]
+
+
+def mebibytes(size: int) -> str:
+    """Returns bytes as MiB, with one digit after the point."""
+    return f"{size / 2**20:.1f}"
+
+
+def last_line(left_out: Mapping[str, int]) -> str:
+    """Returns what was left out, in one line: how much, and why."""
+    parts = counted(left_out)
+    more = f"; {len(parts) - SHOWN} more (--json has them)" if len(parts) > SHOWN else ""
+    return "left out: " + ("; ".join(parts[:SHOWN]) or "nothing") + more
 
 
 def aligned(lines: Sequence[Sequence[object]], left: int = 0) -> str:
@@ -105,27 +140,27 @@ def table(rows: Sequence[Row], today: int | None = None) -> str:
     return aligned([[*HEAD.values(), ""], *lines])
 
 
-def group_table(groups: dict[str, list[Row]]) -> str:
+def group_table(groups: Mapping[str, Sequence[Row]]) -> str:
     """Returns a line for each control group: its huge pages, then MiB back by threshold; most pages first."""
-    first: list[Row] = next(iter(groups.values()), [])
+    first: Sequence[Row] = next(iter(groups.values()), [])
     lines: list[list[object]] = [["control group", "pages", *(label(row.threshold) for row in first)]]
     for name, rows in sorted(groups.items(), key=lambda item: (-item[1][0].pages, item[0])):
         lines.append([name, rows[0].pages, *(row.mebibytes for row in rows)])
     return "MiB back by control group:\n" + aligned(lines, 1)
 
 
-def process_table(shares: dict[int, dict[int, Share]], names: dict[int, str]) -> str:
+def process_table(shares: Mapping[int, Mapping[int, Share]], names: Mapping[int, str]) -> str:
     """Returns a line for each process: its huge pages, then MiB back by threshold; most pages first. `shares`: by
     threshold."""
     lines: list[list[object]] = [["process", "name", "pages", *(label(threshold) for threshold in shares)]]
-    first: dict[int, Share] = next(iter(shares.values()), {})
+    first: Mapping[int, Share] = next(iter(shares.values()), {})
     for process in sorted(first, key=lambda number: (-first[number].pages, number)):
         cells = [each.get(process, Share()).frames / FRAMES_A_MEBIBYTE for each in shares.values()]
         lines.append([process, names.get(process, "?"), first[process].pages, *cells])
     return "MiB back by process (a shared page counts once):\n" + aligned(lines, 2)
 
 
-def cost_table(shares: dict[int, Share], names: dict[int, str]) -> str:
+def cost_table(shares: Mapping[int, Share], names: Mapping[int, str]) -> str:
     """Returns what a threshold costs: huge mappings lost by each process, most first."""
     lines: list[list[object]] = [["process", "name", "huge mappings lost", "pages split", "MiB back"]]
     for process, share in sorted(shares.items(), key=lambda item: (-item[1].lost, item[0])):
@@ -134,66 +169,10 @@ def cost_table(shares: dict[int, Share], names: dict[int, str]) -> str:
     return aligned(lines, 2)
 
 
-def last_line(left_out: Mapping[str, int]) -> str:
-    """Returns what was left out, in one line: how much, and why."""
-    parts = counted(left_out)
-    more = f"; {len(parts) - 4} more (--json has them)" if len(parts) > 4 else ""
-    return "left out: " + ("; ".join(parts[:4]) or "nothing") + more
-
-
-def shares_json(shares: dict[int, Share], names: dict[int, str]) -> list[dict[str, Any]]:
+def shares_json(shares: Mapping[int, Share], names: Mapping[int, str]) -> list[dict[str, Any]]:
     """Returns the shares of processes as JSON."""
     return [
         {"process": process, "name": names.get(process, "?"), "pages": share.pages, "split": share.split, "frames_back": share.frames,
          "huge_mappings_lost": share.lost}
         for process, share in sorted(shares.items())
     ]
-
-
-def round_up(value: float) -> float:
-    """Returns the least of 1, 2 and 5 by a power of ten that is not below a value; at least 1."""
-    unit = 1.0
-    while unit * 10 < value:
-        unit *= 10
-    return next((step * unit for step in (1, 2, 5, 10) if step * unit >= value), 1.0)
-
-
-def text_at(x: float, y: float, text: str, anchor: str = "middle", extra: str = "") -> str:
-    """Returns a text of the picture."""
-    return f'<text x="{x:.1f}" y="{y:.1f}" text-anchor="{anchor}"{extra}>{text}</text>'
-
-
-def bar(row: Row, x: float, width: float, height: float, is_today: bool) -> list[str]:
-    """Returns the bar of a row with its texts; today's setting is framed."""
-    middle, bottom = x + width / 2, HEIGHT - BOTTOM
-    frame = f' stroke="{TODAY}" stroke-width="3"' if is_today else ""
-    fill = PARTLY if row.threshold == OFF else UNDERUSED
-    out = [
-        f'<rect x="{x:.1f}" y="{bottom - height:.1f}" width="{width:.1f}" height="{height:.1f}" fill="{fill}"{frame}/>',
-        text_at(middle, bottom - height - 5, f"{row.mebibytes:.1f}"),
-        text_at(middle, bottom + 16, label(row.threshold)),
-        text_at(middle, bottom + 32, f"{row.split} of {row.pages}", extra=' font-size="10" fill="#555"'),
-    ]
-    return out + ([text_at(middle, bottom + 48, "today", extra=f' fill="{TODAY}"')] if is_today else [])
-
-
-def picture(rows: Sequence[Row], today: int | None) -> str:
-    """Returns a bar for each threshold, its height the MiB back, its number the pages split."""
-    most = round_up(max([row.mebibytes for row in rows] + [0.0]))
-    height, step = HEIGHT - TOP - BOTTOM, (WIDTH - LEFT - RIGHT) / max(1, len(rows))
-    title = "MiB that come back, and huge pages split, by max_ptes_none"
-    out = [
-        f'<svg xmlns="http://www.w3.org/2000/svg" viewBox="0 0 {WIDTH} {HEIGHT}" font-family="sans-serif" font-size="12">',
-        f'<rect width="{WIDTH}" height="{HEIGHT}" fill="white"/>',
-        text_at(LEFT, 22, title, "start", ' font-size="14"'),
-    ]
-    for number in range(STEPS + 1):
-        y = TOP + height * (1 - number / STEPS)
-        out.append(f'<line x1="{LEFT}" y1="{y:.1f}" x2="{WIDTH - RIGHT}" y2="{y:.1f}" stroke="#ddd"/>')
-        out.append(text_at(LEFT - 8, y + 4, f"{most * number / STEPS:g}", "end"))
-    for index, row in enumerate(rows):
-        out += bar(row, LEFT + step * (index + 0.15), step * 0.7, height * row.mebibytes / most, row.threshold == today)
-    for place, (colour, words) in enumerate(LEGEND.items()):
-        out.append(f'<rect x="{LEFT + 150 * place}" y="{HEIGHT - 20}" width="10" height="10" fill="{colour}"/>')
-        out.append(text_at(LEFT + 150 * place + 16, HEIGHT - 11, words, "start"))
-    return "\n".join([*out, "</svg>\n"])

@@ -1,5 +1,5 @@
-"""Stored snapshots: JSON, with a huge page, a name or a reason a line, so that a file of any size is written and read in parts. Each
-field that is read is checked: such a file may come from anybody."""
+"""Stored snapshots: lines of JSON, each a list of a field's name and its value, or an entry of it if it is a table or a list, so that a
+file of any size is written and read in parts. Each value that is read is checked: such a file may come from anybody."""
 
 from __future__ import annotations
 
@@ -11,19 +11,17 @@ from itertools import chain, groupby
 from typing import IO, Any, Callable, Iterator, Mapping
 
 from ..common.errors import InputFault
-from ..common.files import PMD_ORDER, open_input
+from ..common.files import PMD_ORDER
 from ..common.folios import MOST_MAPPED, Folio, compact_counts
 from ..common.folios import Mapping as PageMapping
 from ..common.reader import FOLIO_COST, PIECE_COST
 from ..common.text import escape
-from .snapshot import Snapshot, Sums
+from .look import Snapshot
 
-VERSION = 3  # of the form
+VERSION = 4  # of the form
 MOST_TEXT = 4096  # letters of a name
 DIGITS = 20  # of a number
 LINE = 1 << 20  # bytes of a line: a page that 5,000 processes map
-SECTIONS = {"processes": "{}", "names": "{}", "left_out": "{}", "unread": "{}", "changed_pages": "[]", "folios": "[]"}
-"""The fields that have a line for each entry, and their brackets."""
 
 Read = Callable[[Any], Any]
 """Returns what a JSON value stands for. ValueError for one that it can't be."""
@@ -61,38 +59,19 @@ def list_of(read: Read) -> Read:
     return checked(lambda value: type(value) is list, "list", lambda value: [read(each) for each in value])
 
 
-def row(make: Callable[..., Any], *reads: Read) -> Read:
+def row(*reads: Read, make: Callable[..., Any] = lambda *values: values) -> Read:
     """Returns how lists are read that have a value for each of these."""
     return checked(lambda value: type(value) is list and len(value) == len(reads), f"list of {len(reads)} values",
                    lambda value: make(*(read(each) for read, each in zip(reads, value))))
 
 
-def table_of(name: Read, read: Read, make: Read = dict) -> Read:
-    """Returns how objects of any names are read."""
-    return lambda value: make({name(key): read(each) for key, each in OBJECT(value).items()})
-
-
-def record(make: Callable[..., Any], kind: type, **others: Read) -> Read:
-    """Returns how objects are read that have fields of a dataclass; `others`: those that aren't read by their type."""
-    reads = reads_of(kind, **others)
-    return lambda value: made(make, {name: read_field(name, each, reads) for name, each in OBJECT(value).items()})
-
-
-def made(make: Callable[..., Any], values: dict[str, Any]) -> Any:
-    """Returns what is made of fields. ValueError where one is missing."""
-    try:
-        return make(**values)
-    except TypeError as error:
-        raise ValueError(f"a field is missing: {error}") from error
-
-
 def reads_of(kind: type, **others: Read) -> dict[str, Read]:
-    """Returns how the fields of a dataclass are read: by their types, if it isn't given."""
+    """Returns how the fields of a dataclass are read, or an entry of those that have several: by their types, if it isn't given."""
     return {each.name: others.get(each.name) or BY_TYPE[str(each.type)] for each in fields(kind)}
 
 
-def read_field(name: str, value: Any, reads: Mapping[str, Read]) -> Any:
-    """Returns a field of an object. ValueError where it is spoilt, or isn't one of these."""
+def read_field(reads: Mapping[str, Read], name: str, value: Any) -> Any:
+    """Returns a field, or an entry. ValueError where it is spoilt, or isn't one of these."""
     if name not in reads:
         raise ValueError(f"there is no field {name[:40]!r}")
     try:
@@ -101,9 +80,17 @@ def read_field(name: str, value: Any, reads: Mapping[str, Read]) -> Any:
         raise ValueError(f"{name}: {error}") from error
 
 
-def page_of(**values: Any) -> Folio:
-    """Returns a huge page of these values. ValueError where they don't fit its size."""
-    folio = Folio(**values)
+def made(make: Callable[..., Any], values: Mapping[str, Any]) -> Any:
+    """Returns what is made of fields. ValueError where one is missing."""
+    try:
+        return make(**values)
+    except TypeError as error:
+        raise ValueError(f"a field is missing: {error}") from error
+
+
+def page_of(value: dict[str, Any]) -> Folio:
+    """Returns a huge page of a JSON object. ValueError where it isn't one, or the values don't fit its size."""
+    folio: Folio = made(Folio, {name: read_field(PAGE_FIELDS, name, each) for name, each in value.items()})
     if len(folio.totals) != folio.size:
         raise ValueError(f"totals doesn't have {folio.size} numbers")
     if max(folio.zero, folio.known, folio.kept, *(mapping.subset for mapping in folio.mappings)) > folio.full:
@@ -111,54 +98,43 @@ def page_of(**values: Any) -> Folio:
     return folio
 
 
-OBJECT = checked(lambda value: type(value) is dict, "object")
-NUMBER = checked(lambda text: re.fullmatch("[0-9]{1,20}", text), "number as a name", int)
 COUNT, FLAG, SET = whole((1 << 64) - 1), checked(lambda value: type(value) is bool, "truth value"), hexadecimal(128)
 TEXT = checked(lambda value: type(value) is str and re.fullmatch(f"[ -~]{{0,{MOST_TEXT}}}", value), "text of one line in printable ASCII")
 SECONDS = checked(lambda value: type(value) in (int, float) and abs(value) < 1e9, "number of seconds", float)
-RUNS = list_of(row(lambda count, number: (number,) * count, whole(1 << PMD_ORDER, 1), whole(MOST_MAPPED)))
+RUNS = list_of(row(whole(1 << PMD_ORDER, 1), whole(MOST_MAPPED), make=lambda count, number: (number,) * count))
 TOTALS = checked(lambda value: type(value) is list and len(value) <= 1 << PMD_ORDER, "list of at most as many runs as subpages",
                  lambda value: compact_counts(list(chain.from_iterable(RUNS(value)))))
+PAGE = checked(lambda value: type(value) is dict, "object", page_of)
 BY_TYPE: dict[str, Read] = {
     "int": COUNT, "int | None": maybe(COUNT), "bool": FLAG, "bool | None": maybe(FLAG), "str": TEXT, "float": SECONDS,
-    "dict[str, float]": table_of(TEXT, SECONDS),
-    "Counter[str]": table_of(TEXT, COUNT, Counter),
-    "dict[int, str]": table_of(NUMBER, TEXT),
-    "Sequence[int]": TOTALS,
-    "list[Mapping]": list_of(row(PageMapping, whole(1 << 31, 1), hexadecimal(16), SET, FLAG)),
+    "dict[str, int]": row(TEXT, COUNT), "Counter[str]": row(TEXT, COUNT),
+    "dict[int, str]": row(COUNT, TEXT), "Sequence[int]": TOTALS,
+    "list[Mapping]": list_of(row(whole(1 << 31, 1), hexadecimal(16), SET, FLAG, make=PageMapping)),
 }
-PAGE = record(
-    page_of, Folio, frame=whole(1 << 52), order=whole(PMD_ORDER, 2), zero=SET, known=SET, kept=SET,
+PAGE_FIELDS = reads_of(
+    Folio, frame=whole(1 << 52), order=whole(PMD_ORDER, 2), zero=SET, known=SET, kept=SET,
     pins=maybe(whole(MOST_MAPPED, -MOST_MAPPED)),  # references dropped between two reads make it negative
 )
-FIELDS = reads_of(
-    Snapshot, folios=list_of(PAGE), sums=record(Sums, Sums), today=maybe(whole((1 << PMD_ORDER) - 1)),
-    changed_pages=list_of(row(lambda *pair: pair, maybe(PAGE), maybe(PAGE))),
-)
+FIELDS = {
+    **reads_of(Snapshot, folios=PAGE, today=maybe(whole((1 << PMD_ORDER) - 1)), changed_pages=row(maybe(PAGE), maybe(PAGE))),
+    "version": whole(VERSION, VERSION), "end": FLAG,
+}
 
 
-def object_of(value: Any) -> dict[str, Any]:
-    """Returns a huge page, or sums, as a JSON object."""
-    out = dict(vars(value))
-    if isinstance(value, Folio):
-        out.update({name: format(out[name], "x") for name in ("zero", "known", "kept")})
-        out["totals"] = [[len(list(run)), number] for number, run in groupby(value.totals)]
-        out["mappings"] = [[process, f"{address:x}", f"{subset:x}", by_pmd] for process, address, subset, by_pmd in value.mappings]
+def object_of(folio: Folio) -> dict[str, Any]:
+    """Returns a huge page as a JSON object."""
+    out = {**vars(folio), **{name: format(getattr(folio, name), "x") for name in ("zero", "known", "kept")}}
+    out["totals"] = [[len(list(run)), number] for number, run in groupby(folio.totals)]
+    out["mappings"] = [[process, f"{address:x}", f"{subset:x}", by_pmd] for process, address, subset, by_pmd in folio.mappings]
     return out
 
 
-def json_parts(snapshot: Snapshot) -> Iterator[str]:
-    """Yields the JSON text of a snapshot in lines. The first one has all but the sections."""
-    rest = {name: value for name, value in vars(snapshot).items() if name not in SECTIONS}
-    yield json.dumps({**rest, "version": VERSION}, default=object_of)[:-1] + "\n"
-    for name, brackets in SECTIONS.items():
-        yield f',"{name}": {brackets[0]}\n'
-        values = getattr(snapshot, name)
-        for left, each in zip(reversed(range(len(values))), values):
-            entry = json.dumps({each: values[each]} if brackets == "{}" else [each], default=object_of)
-            yield entry[1:-1] + (",\n" if left else "\n")
-        yield f"{brackets[1]}\n"
-    yield "}\n"
+def json_lines(snapshot: Snapshot) -> Iterator[str]:
+    """Yields the lines of a stored snapshot."""
+    values: dict[str, Any] = {"version": VERSION, **vars(snapshot), "end": True}
+    for name, value in values.items():
+        for entry in value.items() if isinstance(value, dict) else value if isinstance(value, list) else [value]:
+            yield json.dumps([name, entry], default=object_of) + "\n"
 
 
 def whole_number(text: str) -> int:
@@ -169,16 +145,7 @@ def whole_number(text: str) -> int:
 
 
 DECODER = json.JSONDecoder(parse_int=whole_number, parse_constant=int)
-
-
-def value_of(text: str) -> Any:
-    """Returns the value of a JSON text. ValueError where it isn't one."""
-    try:
-        return DECODER.decode(text)
-    except json.JSONDecodeError as error:
-        raise ValueError(f"no JSON: {error.msg}") from error
-    except RecursionError as error:
-        raise ValueError("it is nested too deeply") from error
+LINE_READ = row(checked(lambda value: type(value) is str, "name of a field"), lambda value: value)
 
 
 class StoredReader:
@@ -187,59 +154,50 @@ class StoredReader:
     def __init__(self, mebibytes: int) -> None:
         self._mebibytes, self._room, self._line = mebibytes, mebibytes << 20, 0
 
-    def read(self, path: str) -> Snapshot:
-        """Returns the snapshot of a file, or of standard input (`-`). InputFault where it isn't one, or takes too much memory."""
-        file, self._line = open_input(path), 0
+    def read(self, path: str, file: IO[bytes]) -> Snapshot:
+        """Returns the snapshot of an open file, whose path an error names. InputFault where it isn't one, or takes too much memory."""
+        self._line = 0
         try:
             snapshot: Snapshot = made(Snapshot, self._fields(file))
             if len({folio.frame for folio in snapshot.folios}) < len(snapshot.folios):
                 raise ValueError("two huge pages have the same frame")
             return snapshot
         except (ValueError, OSError) as error:
-            where = f"line {self._line}: " if self._line else ""
-            raise InputFault(f"{escape(path)}: this is no stored snapshot: {where}{error}") from error
-        finally:
-            if path != "-":
-                file.close()
-
-    def _next(self, file: IO[bytes]) -> str:
-        line = file.readline(LINE + 1)
-        self._line += 1
-        if len(line) > LINE:
-            raise ValueError(f"it has more than {LINE >> 20} MiB")
-        return line.decode("ascii").rstrip("\n")
+            raise InputFault(f"{escape(path)}: this is no stored snapshot: line {self._line}: {error}") from error
 
     def _fields(self, file: IO[bytes]) -> dict[str, Any]:
         """Returns the fields of a snapshot, each checked."""
-        values = OBJECT(value_of(self._next(file) + "}"))
-        version = values.pop("version", None)
-        if type(version) is not int or version != VERSION:
-            raise ValueError(f"it has another version than {VERSION}")
-        found = {name: read_field(name, value, FIELDS) for name, value in values.items()}
-        while (line := self._next(file)) != "}":
-            head = re.fullmatch(r',"([a-z_]{1,40})": (\[|{)', line)
-            if not head or SECTIONS.get(head[1], "")[:1] != head[2] or head[1] in found:
-                raise ValueError("no section of a snapshot begins here")
-            found[head[1]] = self._section(file, head[1])
-        if file.read(1):
-            raise ValueError("there is more after its end")
+        tables: dict[str, Any] = {name: {} for name in ("processes", "names", "sums")}
+        found: dict[str, Any] = {**tables, "left_out": Counter(), "unread": Counter(), "folios": [], "changed_pages": []}
+        while line := file.readline(LINE + 1):
+            self._line += 1
+            if "end" in found:
+                raise ValueError("there is more after its end")
+            name, value = self._entry(line)
+            if (name == "version") != (self._line == 1):
+                raise ValueError("its first line has the version, and no other")
+            if isinstance(found.get(name), list):
+                found[name].append(value)
+            elif isinstance(found.get(name), dict):
+                found[name][value[0]] = value[1]
+            else:
+                found[name] = value
+        if not found.pop("end", None):
+            raise ValueError("its end is missing")
+        del found["version"]
         return found
 
-    def _section(self, file: IO[bytes], name: str) -> Any:
-        """Returns an object or a list, an entry a line."""
-        brackets = SECTIONS[name]
-        out = read_field(name, value_of(brackets), FIELDS)
-        while (line := self._next(file)) != brackets[1]:
-            entry = read_field(name, value_of(brackets[0] + line.rstrip(",") + brackets[1]), FIELDS)
-            self._take(entry)
-            out.update(entry) if isinstance(out, dict) else out.extend(entry)
-        return out
-
-    def _take(self, entry: Any) -> None:
-        """Counts the memory of an entry: a name or a reason like a huge page without mappings."""
-        if len(entry) != 1:
-            raise ValueError("a line has another number of entries than one")
-        pages = [] if isinstance(entry, dict) else entry[0] if isinstance(entry[0], tuple) else entry
+    def _entry(self, line: bytes) -> tuple[str, Any]:
+        """Returns the name of a field, and its value or an entry, and counts the memory: others like a page without mappings."""
+        if len(line) > LINE:
+            raise ValueError(f"it has more than {LINE >> 20} MiB")
+        try:
+            name, value = LINE_READ(DECODER.decode(line.decode("ascii")))
+        except (json.JSONDecodeError, RecursionError) as error:
+            raise ValueError("no JSON") from error
+        value = read_field(FIELDS, name, value)
+        pages = value if name == "changed_pages" else [value] if name == "folios" else []
         self._room -= FOLIO_COST * (len(pages) or 1) + PIECE_COST * sum(len(page.mappings) for page in pages if page)
         if self._room < 0:
             raise ValueError(f"it takes more than {self._mebibytes} MiB of memory (--memory)")
+        return name, value

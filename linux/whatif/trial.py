@@ -17,10 +17,9 @@ from ..common.folios import Folio
 from ..common.page_files import Frames, PageFlag, TooShort, frames_at
 from ..common.subpages import size
 from ..common.text import escape
-from .page_plan import LAZILY_FREED
-from .predictor import Predictor
-from .rows import label
-from .snapshot import Snapshot
+from .library import LAZILY_FREED
+from .look import Snapshot
+from .predictor import Predictor, label
 
 
 @dataclass
@@ -36,7 +35,6 @@ class TrialResult:
     returned: dict[int, int]
     unscripted: dict[int, int]  # frames that came back of pages that can't be predicted
     added: dict[Statistic, int]  # to the kernel's counters
-    is_undisturbed: bool = True  # nobody else moved the counters
     problem: str = ""  # why the pages weren't held still for the whole time, where they were to be
     differing: list[int] = field(default_factory=list)
     moved: int = 0  # pages that differ, but were moved to other frames meanwhile (compaction)
@@ -47,24 +45,21 @@ class TrialResult:
         return {Statistic.SPLIT: len(large), Statistic.UNDERUSED: self.underused}
 
     @property
-    def are_counters_right(self) -> bool:
-        """Whether the counters moved as predicted, except for pages that can't be predicted."""
-        return all(0 <= self.added[name] - count <= len(self.unscripted) for name, count in self.statistics().items())
-
-    @property
     def verdict(self) -> tuple[int, str]:
-        """The status, and in words. DONE: each page and each frame is as predicted, and the counters too."""
+        """The status, and in words. DONE: each page and each frame is as predicted, and the kernel's counters too, to which pages that
+        can't be predicted and others only add."""
+        more = [self.added[name] - count for name, count in self.statistics().items()]
         if self.problem:
             return INCONCLUSIVE, f"inconclusive: not held still the whole time: {escape(self.problem)}"
         if self.differing:
             return DIFFERS, f"{len(self.differing)} pages DIFFER"
-        if any(self.added[name] < count for name, count in self.statistics().items()):  # others only add to the counters
+        if min(more) < 0:
             return DIFFERS, "the counters DIFFER"
         if self.moved:
             return INCONCLUSIVE, f"inconclusive: {self.moved} pages were moved by others"
-        if not self.is_undisturbed:
-            return INCONCLUSIVE, "inconclusive: others moved the counters, or the pages weren't held still"
-        return (DONE, "exact") if self.are_counters_right else (DIFFERS, "the counters DIFFER")
+        if max(more) > len(self.unscripted):
+            return INCONCLUSIVE, "inconclusive: others moved the counters"
+        return DONE, "exact"
 
 
 def given_back(folio: Folio, max_ptes_none: int, locked_are_tried: bool = False) -> int | None:
@@ -150,9 +145,6 @@ def count_result(sums: Counter[str], result: TrialResult) -> None:
     sums["frames that came back"] += count_subpages(result.returned)
     sums["pages that were left out"] += sum(result.snapshot.left_out.values())
     sums["  of these given to MADV_FREE"] += result.snapshot.left_out[LAZILY_FREED]
-    sums["  of these split or dropped"] += len(result.unscripted)
-    sums["  and their frames"] += count_subpages(result.unscripted)
-    sums["pages found changed between two looks"] += result.snapshot.changed
 
 
 def trial_lines(threshold: int, result: TrialResult) -> list[str]:

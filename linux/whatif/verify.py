@@ -2,12 +2,12 @@
 of its own.
 
 A trial makes new pages, sets a threshold, looks, has the kernel reclaim in the group, and looks which pages are split
-and which frames came back; libthp and a plain reading of the kernel's functions (reference.py) predict both from the
+and which frames came back; libthp and a plain reading of the kernel's functions (trial.py) predict both from the
 look. Settings are restored, and groups and processes removed, at any end (linux/common/keeper.py); one tool at a time
 holds the lock.
 
-The kernel's counters of splits are of the whole machine. They are compared where they don't move before and after the
-reclaim; where others move them, a trial whose pages are all as predicted is inconclusive, not exact.
+The kernel's counters of splits are of the whole machine. Where they move by more than predicted, others moved them, and a trial
+whose pages are all as predicted is inconclusive, not exact.
 """
 
 from __future__ import annotations
@@ -19,15 +19,15 @@ import shutil
 import signal
 import subprocess
 import sys
-import time
 from collections import Counter
 from contextlib import ExitStack, contextmanager, suppress
+from itertools import product
 from pathlib import Path
 from typing import Any, Iterator
 
-from ..common.counters import CounterWatch, counts
+from ..common.counters import counts
 from ..common.errors import DIFFERS, DONE, INCONCLUSIVE, InputFault, RunFailed, Unavailable, signals_wait
-from ..common.files import COLLAPSE_SLEEP, PTES_NONE, SWITCH, THP, OwnFolder, size_folder
+from ..common.files import COLLAPSE_SLEEP, PTES_NONE, SWITCH, OwnFolder, size_folder
 from ..common.groups import END_TIME, Freeze, Groups
 from ..common.keeper import Keeper
 from ..common.page_files import Frames
@@ -35,26 +35,20 @@ from ..common.proc import members
 from ..common.text import escape
 from ..common.user import User
 from .look import ProcessChoice, SnapshotTaker
-from .rows import OFF, label
-from .snapshot import NAME
-from .stored import json_parts
+from .options import NAME
+from .predictor import OFF, label
+from .stored import json_lines
 from .trial import TrialResult, count_result, find_returned, result_of, trial_lines
 
 THRESHOLDS = (OFF, 0, 1, 16, 32, 64, 128, 256, 409, 500, 510)
 SMALL_ORDERS = (4, 6)
 HOUR = 3600000  # milliseconds: khugepaged collapses nothing meanwhile
-TURN = 60.0  # seconds after which another tool may have the machine
-CHANGE_TIME = 0.5  # seconds that pages change before the look
 KNOWN = [sys.executable, "-IBS", str(Path(__file__).with_name("known.py"))]
-WINDOW = 0.05  # seconds before and after a reclaim in which nobody else may move the counters
-LONG_WINDOW = 1.0  # seconds for which the counters are watched where they don't fit
 
 
 def settings(task: argparse.Namespace) -> dict[str, object]:
     """Returns what is set for trials, by file, and put back. khugepaged collapses nothing meanwhile."""
     out: dict[str, object] = {SWITCH: 1, PTES_NONE: OFF, COLLAPSE_SLEEP: HOUR}
-    if task.enabled:
-        out[f"{THP}/enabled"] = task.enabled
     for order in () if task.words else SMALL_ORDERS:
         out[f"{size_folder(order)}/enabled"] = "madvise"
     return out
@@ -69,17 +63,16 @@ class TrialBench:
         for path, value in settings(task).items():
             keeper.set(path, value)
         self._frames = Frames()
-        self.taker = SnapshotTaker(with_small=True, with_kernel=task.with_kernel)
+        self.taker = SnapshotTaker(with_small=True)
         self._made = 0
 
     def trial(self, threshold: int, seed: str) -> TrialResult:
         """Makes one trial on new pages."""
         self._made += 1
-        is_held = bool((self.task.words or self.task.change) and not self.task.running)
+        is_held = bool(self.task.words and not self.task.running)
         group = self.groups.add(f"trial{self._made}", is_freezable=is_held)
         self.keeper.set(PTES_NONE, threshold)
         with self._pages(group, threshold, seed), ExitStack() as stack:
-            is_undisturbed = CounterWatch([]).watch_once(WINDOW)
             held = stack.enter_context(self.groups.freeze(group)) if is_held else Freeze()
             snapshot = self.taker.take(ProcessChoice(groups=[group]))
             before = counts([])
@@ -87,19 +80,16 @@ class TrialBench:
             added = {name: count or 0 for name, count in counts([]).since(before).machine.items()}
             returned, moved = find_returned(snapshot, self._frames)
             stack.close()
-            is_undisturbed = is_undisturbed and CounterWatch([]).watch_once(WINDOW)
         self.groups.remove(group)
         result = result_of(snapshot, threshold, returned, moved, added)
-        result.is_undisturbed, result.problem = is_undisturbed, held.problem
-        if is_undisturbed and not result.differing and not result.are_counters_right:
-            result.is_undisturbed = CounterWatch([]).watch_once(LONG_WINDOW)
+        result.problem = held.problem
         return result
 
     @contextmanager
     def _pages(self, group: str, threshold: int, seed: str) -> Iterator[None]:
         """Runs a process with pages until the end of the `with`."""
         task = self.task
-        process = self._start(group, task.words or [*KNOWN, seed, str(task.pages), str(task.change)])
+        process = self._start(group, task.words or [*KNOWN, seed, str(task.pages)])
         try:
             if task.words:
                 self._wait(process, group)
@@ -128,7 +118,6 @@ class TrialBench:
             raise InputFault(f"{escape(command[0])} can't be run: {getattr(error, 'strerror', None) or error}") from error
         except subprocess.SubprocessError as error:
             raise RunFailed(f"{escape(command[0])} can't be run in {group}: {error}") from error
-        self.keeper.own(process.pid)
         return process
 
     def _make_pages(self, process: subprocess.Popen[str], group: str, threshold: int) -> None:
@@ -142,7 +131,6 @@ class TrialBench:
                 self.keeper.set(PTES_NONE, threshold)
                 print(file=process.stdin, flush=True)
             if line == "ready\n":
-                time.sleep(CHANGE_TIME if self.task.change else 0)
                 return
         raise Unavailable("the process that makes known pages ended")
 
@@ -171,28 +159,22 @@ class TrialBench:
 
 def verify(task: argparse.Namespace, user: User) -> int:
     """Runs all trials that options.py describes; returns the status: DIFFERS where one differs, else INCONCLUSIVE where one is
-    inconclusive. `user` runs the command. After TURN seconds another tool may have the lock for a while."""
+    inconclusive. `user` runs the command."""
     sums: Counter[str] = Counter()
-    todo = [(number, threshold) for number in range(task.rounds) for threshold in task.thresholds or THRESHOLDS][::-1]
     if task.words and not shutil.which(task.words[0]):
         raise InputFault(f"{escape(task.words[0])} can't be run: there is no such program")
-    folder, waits = OwnFolder(task.keep) if task.keep else None, task.wait
-    while todo:
-        with Keeper(NAME, waits) as keeper:
-            bench, until = TrialBench(keeper, task, user), time.monotonic() + TURN
-            if not sums:
-                print("set meanwhile, and put back: " + ", ".join(settings(task)), flush=True)
-                if bench.taker.lacking:
-                    print(f"queues and pins aren't read ({bench.taker.lacking}): predictions are guesses", flush=True)
-            while todo and time.monotonic() < until:
-                number, threshold = todo.pop()
-                result = bench.trial(threshold, f"{task.seed} {number} {threshold}")
-                count_result(sums, result)
-                if folder:
-                    keep(folder, f"{task.seed}-{number}-{label(threshold)}", result)
-                if task.verbose or result.verdict[0] != DONE:
-                    print("\n".join(trial_lines(threshold, result)), flush=True)
-        waits = True
+    folder = OwnFolder(task.keep) if task.keep else None
+    with Keeper(NAME, task.wait) as keeper:
+        bench = TrialBench(keeper, task, user)
+        print("set meanwhile, and put back: " + ", ".join(settings(task)), flush=True)
+        if bench.taker.lacking:
+            print(f"queues and pins aren't read ({bench.taker.lacking}): predictions are guesses", flush=True)
+        for number, threshold in product(range(task.rounds), task.thresholds or THRESHOLDS):
+            result = bench.trial(threshold, f"{task.seed} {number} {threshold}")
+            count_result(sums, result)
+            if folder:
+                keep(folder, f"{task.seed}-{number}-{label(threshold)}", result)
+            print("\n".join(trial_lines(threshold, result)), flush=True)
     for what, count in sums.items():
         print(f"{count:10} {what}")
     if not sums["pages"]:
@@ -207,9 +189,6 @@ def keep(folder: OwnFolder, name: str, result: TrialResult) -> None:
     """Writes what was seen before and after a trial, so that it can be checked again: a stored snapshot, and the frames that came back
     by the page's first frame, as hexadecimal sets."""
     returned = {frame: format(given, "x") for frame, given in {**result.returned, **result.unscripted}.items()}
-    for end, parts in (("json", json_parts(result.snapshot)), ("returned", [json.dumps(returned) + "\n"])):
-        try:
-            with folder.create(f"{name}.{end}") as file:
-                file.writelines(parts)
-        except OSError as error:
-            raise InputFault(f"{name}.{end} can't be written: {error.strerror}") from error
+    for end, parts in (("json", json_lines(result.snapshot)), ("returned", [json.dumps(returned) + "\n"])):
+        with folder.create(f"{name}.{end}") as file:
+            file.writelines(parts)

@@ -104,4 +104,4 @@ module _ (old new : Fronts) (c : ℕ) where
       (t.0, elim t.1 [ inl b ↦ inl (b.0, begins_inside commands answers opened _ b.1) | inr e ↦ inr (e.0, ends_inside commands answers opened r.steps e.1) ])
 
   pub works_inside : (commands : List Command) (w : WorkedList) → WorksOn c old (shared new) commands w → WasWorked c new commands w
-  works_inside commands w k = (before, to_inside commands w.answers w.opened w.rest k)
+  works_inside commands w k = (before, record { shut = k.shut; opened = k.opened; works = to_inside commands w.answers k.opened w.rest k.works })

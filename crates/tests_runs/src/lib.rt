@@ -4,7 +4,7 @@
 //! - `scripts`: whole scripts by `run_script`; `program`: by the program, with answers, totals, journals and errors.
 //! - `stress`: generated scripts of 100,000 commands on shared nodes (`scripts` generates, `runs` lets workers take turns);
 //!   `tallies`, `pages`, `walks`, `batches`, `commands`, `parts` and `texts` compare the result with plain loops.
-//! - `surface`: every public item of six crates. `equal` compares results.
+//! - `equal` compares results.
 //!
 //! It uses the libraries from above, so that they are proved once.
 #![tactic(auto)]
@@ -19,7 +19,5 @@ mod program;
 mod scripts;
 #[cfg(test)]
 mod stress;
-#[cfg(test)]
-mod surface;
 #[cfg(test)]
 mod turns;

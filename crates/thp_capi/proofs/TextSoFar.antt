@@ -1,6 +1,6 @@
 -- What the text that came to a check, and a part behind it, have its verdict be.
 use Rattle.std.proofs.Common.{◌≡◌, ◌∙◌, ◌++◌, ap, sym, [], Ok, Err, append_assoc, append-nil, IfOk, IfErr, Result}
-use Rattle.thp_journal_reader.specs.declared.journals.Journals.{Journals}
+use Rattle.thp_journal_reader.specs.declared.journals.ReadJournals.{ReadJournals}
 use Rattle.thp_journal_reader.specs.Prelude.{ReportsFirst, journals_within, ReadSoFar, told_with}
 use Rattle.thp_script.specs.Prelude.{max_counted, Text}
 use Rattle.thp_capi.specs.LongChecks.{HasRead, IsVerdictOn, ReadsOn, Verdict}
@@ -12,7 +12,7 @@ reads_on_ok old part (Err e) on = tt
 
 -- the verdict, told as the check tells it
 pub judged : (check : ReadSoFar) (v : Verdict)
-    → IfOk v (λ illegal. (journals : Journals) × (told_with check [] ≡ Ok journals) × ReportsFirst journals.nodes illegal)
+    → IfOk v (λ illegal. (journals : ReadJournals) × (told_with check [] ≡ Ok journals) × ReportsFirst journals.nodes illegal)
     → IfErr v (λ fault. told_with check [] ≡ Err (fault.line, fault.kind))
     → (text : Text) → HasRead check text → IsVerdictOn text v
 judged check (Ok illegal) first fault text has = (first.0, ap (journals_within max_counted) (sym (append-nil text)) ∙ sym (has []) ∙ first.1, first.2)

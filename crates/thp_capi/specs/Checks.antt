@@ -1,6 +1,6 @@
 -- The result of the check of a text, as numbers.
 use Rattle.std.specs.Prelude.{◌≡◌, ℕ, Option, None, Some, Result, Ok, Err, IfOk, IfErr, All}
-use Rattle.thp_journal_reader.specs.declared.journals.Journals.{Journals}
+use Rattle.thp_journal_reader.specs.declared.journals.ReadJournals.{ReadJournals}
 use Rattle.thp_journal_reader.specs.Prelude.{CanBeLegal, ReportsIllegal, journals_of}
 use Rattle.thp_script.specs.declared.fault.ReadFault.{ReadFault}
 use Rattle.thp_script.specs.declared.fault.ReadFault.TheVariants.{Text as TextFault, OutOfMemory}
@@ -15,8 +15,8 @@ CheckAnswer = Result (Option ℕ) ReadFault
 -- the result is right for the text: the journals in it are legal, or the line is that of the first event that does not fit those
 -- before it; they are legal if some choice of blocks makes them so; or the result is the text's first error
 pub record ReportsText (text : Text) (answer : CheckAnswer) : Type 0 where
-  pub line : IfOk answer (λ line. (journals : Journals) × (journals_of text ≡ Ok journals) × ReportsIllegal journals.nodes line)
-  pub free_choice : IfOk answer (λ line. (journals : Journals) → journals_of text ≡ Ok journals → All CanBeLegal journals.nodes → line ≡ None)
+  pub line : IfOk answer (λ line. (journals : ReadJournals) × (journals_of text ≡ Ok journals) × ReportsIllegal journals.nodes line)
+  pub free_choice : IfOk answer (λ line. (journals : ReadJournals) → journals_of text ≡ Ok journals → All CanBeLegal journals.nodes → line ≡ None)
   pub fault : IfErr answer (ReportsFault (journals_of text))
 
 -- the code of a kind of error

@@ -3,7 +3,7 @@ use Rattle.std.specs.Prelude.{◌≡◌, ◌++◌, ℕ, List, [], Option, Some, 
 use Rattle.thp_check.specs.Prelude.{explanation}
 use Rattle.thp_journal_reader.specs.declared.long_check.Illegal.{Illegal}
 use Rattle.thp_script.specs.declared.fault.TextFault.{TextFault}
-use Rattle.thp_journal_reader.specs.declared.journals.Journals.{Journals}
+use Rattle.thp_journal_reader.specs.declared.journals.ReadJournals.{ReadJournals}
 use Rattle.thp_journal_reader.specs.Prelude.{ReportsFirst, journals_within, ReadSoFar, told_with}
 use Rattle.thp_history.specs.declared.refusal.Refusal.TheVariants.{OutOfMemory}
 use Rattle.thp_script.specs.Prelude.{max_counted, Text}
@@ -26,7 +26,7 @@ Verdict = Result (Option Illegal) TextFault
 -- the verdict is that on the text: each of its nodes is legal, or the event is the first that does not fit, with its reason; or
 -- the error is the text's first
 abbrev pub IsVerdictOn : Text → Verdict → Type 0
-IsVerdictOn text (Ok illegal) = (journals : Journals) × (journals_within max_counted text ≡ Ok journals) × ReportsFirst journals.nodes illegal
+IsVerdictOn text (Ok illegal) = (journals : ReadJournals) × (journals_within max_counted text ≡ Ok journals) × ReportsFirst journals.nodes illegal
 IsVerdictOn text (Err fault) = journals_within max_counted text ≡ Err (fault.line, fault.kind)
 
 -- the code and the line (0: none)

@@ -23,7 +23,7 @@ module _ (most : ℕ) {A : Type 0} (IsAnswer : List ℕ → A → List ℕ → T
   fault_of_input x read fault told = grind arith
 
   -- the text was at fault, or memory was refused
-  pub ends_early : (old : Option (List ℕ)) (reader_failed writer_failed : Bool) (fault : ReadFault) (r : Result A RunFault) → ReportsOf (HasFault bytes) fault → reader_failed ≡ false → writer_failed ≡ false → r ≡ Err (run_fault fault)
+  pub ends_early : (old : Option (List ℕ)) (reader_failed writer_failed : Bool) (fault : ReadFault) (r : Result A (RunFault ℕ)) → ReportsOf (HasFault bytes) fault → reader_failed ≡ false → writer_failed ≡ false → r ≡ Err (run_fault fault)
       → Ends IsAnswer HasFault known old old reader_failed writer_failed r
   ends_early old rf wf x r told e f is = grind (arith, fault_of_input, keeps_same)
 
@@ -35,19 +35,19 @@ module _ (most : ℕ) {A : Type 0} (IsAnswer : List ℕ → A → List ℕ → T
   front_of_input (Some input) read x text P answer p = (x, text, answers input bytes text x read answer, p)
 
   -- the answer was written
-  pub ends_written : (old new : Option (List ℕ)) (reader_failed writer_failed : Bool) (x : A) (text : List ℕ) (r : Result A RunFault) → IsAnswer bytes x text → Appends old new text → reader_failed ≡ false → writer_failed ≡ false → r ≡ Ok x
+  pub ends_written : (old new : Option (List ℕ)) (reader_failed writer_failed : Bool) (x : A) (text : List ℕ) (r : Result A (RunFault ℕ)) → IsAnswer bytes x text → Appends old new text → reader_failed ≡ false → writer_failed ≡ false → r ≡ Ok x
       → Ends IsAnswer HasFault known old new reader_failed writer_failed r
   ends_written old new rf wf x text r answer done e f is = rw is (written_of_input known read x text (λ t. Appends old new t) answer done, e, f)
 
   -- the writer failed, and took a front of the answer
-  pub ends_cut : (old new : Option (List ℕ)) (reader_failed writer_failed : Bool) (x : A) (text : List ℕ) (r : Result A RunFault) → IsAnswer bytes x text → WritesFront old new text → reader_failed ≡ false → writer_failed ≡ true → r ≡ Err Write
+  pub ends_cut : (old new : Option (List ℕ)) (reader_failed writer_failed : Bool) (x : A) (text : List ℕ) (r : Result A (RunFault ℕ)) → IsAnswer bytes x text → WritesFront old new text → reader_failed ≡ false → writer_failed ≡ true → r ≡ Err Write
       → Ends IsAnswer HasFault known old new reader_failed writer_failed r
   ends_cut old new rf wf x text r answer cut e f is = rw is (front_of_input known read x text (λ t. WritesFront old new t) answer cut, e, f)
 
 -- ---- calls of the writer
 
 -- none was made where the text was at fault
-pub none_at_fault : {A : Type 0} (r : Result A RunFault) (writer_failed : Bool) (fault : ReadFault) (calls : List DeviceCall) → r ≡ Err (run_fault fault) → WritesAnswer r writer_failed calls calls
+pub none_at_fault : {A : Type 0} (r : Result A (RunFault ℕ)) (writer_failed : Bool) (fault : ReadFault) (calls : List DeviceCall) → r ≡ Err (run_fault fault) → WritesAnswer r writer_failed calls calls
 none_at_fault r wf x calls is = grind arith
 
 -- those of the answer, whether or not the writer failed

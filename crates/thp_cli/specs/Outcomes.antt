@@ -34,7 +34,7 @@ name_front Thpcheck = codes "thpcheck: "
 name_front Thpdraw = codes "thpdraw: "
 
 -- the line for a fault of a run: the program's name, and the text that the fault displays
-unfoldable pub fault_line : Program → RunFault → List ℕ
+unfoldable pub fault_line : Program → RunFault ℕ → List ℕ
 fault_line program fault = name_front program ++ fault_text fault ++ (10 ∷ [])
 
 -- the line for a node that the journal does not have
@@ -51,7 +51,7 @@ message_text program (NoNode number) = no_node_line program number
 message_text program NoText = line_of (codes "error: invalid UTF-8 was detected in one or more arguments")
 
 -- 2 if the script has an error, 3 if memory could not be allocated or a device failed
-abbrev pub status_of : RunFault → ℕ
+abbrev pub status_of : RunFault ℕ → ℕ
 status_of (Text line kind) = 2
 status_of OutOfMemory = 3
 status_of Read = 3
@@ -126,7 +126,7 @@ abbrev pub IsTextOf : Option (List ℕ) → List ℕ → Type 0
 IsTextOf shown text = IfSome shown (λ known. text ≡ known)
 
 -- the writer took what a value displays, or a prefix of it if it failed, or memory for the text could not be allocated
-abbrev pub IsShown : Option (List ℕ) → Device → Result (Unit {0}) RunFault → Type 0
+abbrev pub IsShown : Option (List ℕ) → Device → Result (Unit {0}) (RunFault ℕ) → Type 0
 IsShown shown output (Ok _) = (text : List ℕ) × IsTextOf shown text × Takes output text × (output.failed ≡ false)
 IsShown shown output (Err fault) =
     ((text : List ℕ) × IsTextOf shown text × Takes output text × (output.failed ≡ true) × (fault ≡ Write))

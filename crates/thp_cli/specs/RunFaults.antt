@@ -9,25 +9,25 @@ use Rattle.thp_cli.specs.declared.fault.RunFault.{RunFault}
 use Rattle.thp_cli.specs.declared.fault.RunFault.TheVariants.{Text, OutOfMemory, Read, Write}
 
 -- the text that a fault of a run displays: for a text's first error its line and the word of its kind
-abbrev pub fault_text : RunFault → List ℕ
+abbrev pub fault_text : RunFault ℕ → List ℕ
 fault_text (Text line kind) = codes "line " ++ decimal line ++ codes ": " ++ kind_word kind
 fault_text OutOfMemory = codes "out of memory"
 fault_text Read = codes "read failed"
 fault_text Write = codes "write failed"
 
 -- why there is no summary, as a fault of a check
-abbrev pub fault_of_long_read : LongReadFault → RunFault
+abbrev pub fault_of_long_read : LongReadFault → RunFault ℕ
 fault_of_long_read (summary.Text fault) = Text fault.line fault.kind
 fault_of_long_read summary.OutOfMemory = OutOfMemory
 
 -- a failed read sets the reader's flag, and lack of memory does not
-abbrev pub IsReadingFault : Bool → RunFault → Type 0
+abbrev pub IsReadingFault : Bool → RunFault ℕ → Type 0
 IsReadingFault failed Read = failed ≡ true
 IsReadingFault failed OutOfMemory = failed ≡ false
 IsReadingFault failed Write = ⊥
 IsReadingFault failed (Text line kind) = ⊥
 
 -- a fault of reading, as a fault of the run
-abbrev pub run_fault : ReadFault → RunFault
+abbrev pub run_fault : ReadFault → RunFault ℕ
 run_fault (reading.Text line kind) = Text line kind
 run_fault reading.OutOfMemory = OutOfMemory

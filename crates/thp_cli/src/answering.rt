@@ -52,6 +52,6 @@ pub fn answer<A: WordsAnswer, W: Write>(
     if !matches!(kind, ErrorKind::DisplayHelp | ErrorKind::DisplayVersion) {
         return Err(ProgramFault::Usage(text));
     }
-    write_text(output, text.as_bytes()).ok_or(RunFault::Write)?;
+    write_text(output, text.as_bytes()).ok_or(ProgramFault::Run(RunFault::Write))?;
     Ok(())
 }

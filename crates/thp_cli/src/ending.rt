@@ -43,7 +43,7 @@ pub enum Ending {
 pub enum ProgramFault {
     /// A run, or the output of a requested text, failed.
     #[error(transparent)]
-    Run(RunFault),
+    Run(RunFault<u64>),
     /// The words of the command line have an error; the text is `clap`'s.
     #[error("{0}")]
     Usage(String),
@@ -61,11 +61,19 @@ pub enum ProgramFault {
     NoText,
 }
 
+impl From<RunFault<u64>> for ProgramFault {
+    ghost from_gives = { λ fault ended. ended ≡ Run fault };
+
+    fn from(fault: RunFault<u64>) -> ProgramFault {
+        ProgramFault::Run(fault)
+    }
+}
+
 impl From<RunFault> for ProgramFault {
     ghost from_gives = { λ fault ended. ended ≡ Run fault };
 
     fn from(fault: RunFault) -> ProgramFault {
-        ProgramFault::Run(fault)
+        ProgramFault::Run(RunFault::from(fault))
     }
 }
 

@@ -48,7 +48,7 @@ pub fn name_front(program: Program) -> &'static str
 }
 
 /// Appends what an error displays to a line that has only a name.
-fn put_fault(text: &mut ArrayString<LINE>, fault: &RunFault)
+fn put_fault(text: &mut ArrayString<LINE>, fault: &RunFault<u64>)
     requires room { array_string_len text.old ≤ 10 }
     ensures bytes { text.new.bytes ≡ text.old.bytes ++ fault_text fault.now }
     ensures few { array_string_len text.new ≤ 80 }
@@ -78,7 +78,7 @@ fn named_line(program: Program) -> ArrayString<LINE>
 
 /// Returns the line that states an error of a run, with the program's name. It needs no memory, so it states every error as it is.
 #[tactic(auto, unfolding(crate::specs::Outcomes::fault_line))]
-fn fault_line(program: Program, fault: &RunFault) -> ArrayString<LINE>
+fn fault_line(program: Program, fault: &RunFault<u64>) -> ArrayString<LINE>
     ensures { result.bytes ≡ fault_line program fault.now }
 {
     let mut text = named_line(program);
@@ -108,7 +108,7 @@ pub fn tell_text<E: Write>(errors: &mut Watched<E>, text: &[u8])
 }
 
 /// Reports the error of a run or a check, and returns the exit status. It allocates nothing.
-pub fn tell_run<E: Write>(program: Program, fault: RunFault, errors: &mut Watched<E>) -> u8
+pub fn tell_run<E: Write>(program: Program, fault: RunFault<u64>, errors: &mut Watched<E>) -> u8
     requires { errors.old.failed ≡ false }
     ensures told { Takes (device_of E.contents errors.old errors.new) (fault_line program fault) }
     ensures status { result ≡ status_of fault }

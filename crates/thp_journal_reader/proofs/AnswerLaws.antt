@@ -8,7 +8,7 @@ use Rattle.thp_history.specs.Prelude.{with_least_blocks, History, IsLegal, IsFir
 use Rattle.thp_history.proofs.LeastBlocks.{least_is_legal, least_same}
 use Rattle.thp_script.specs.declared.fault.TextKind.TheVariants.{TooLong}
 use Rattle.thp_script.specs.Prelude.{◌>>=◌, Fault, Text, lines_of}
-use Rattle.thp_journal_reader.specs.Prelude.{Journals, NodeJournal, Line, Head, Node, Happened, End, Start, AreLegalBefore, CanBeLegal, IsLegalNode, ReportsIllegal, events_of, journals_with, journals_within, lines_from, node_journal, nodes_of}
+use Rattle.thp_journal_reader.specs.Prelude.{ReadJournals, ReadNode, Line, Head, Node, Happened, End, Start, AreLegalBefore, CanBeLegal, IsLegalNode, ReportsIllegal, events_of, journals_with, journals_within, lines_from, node_journal, nodes_of}
 
 -- the first misfit is one of the events
 pub misfit_inside : (shape : Shape) (h : History) (place : ℕ) → IsFirstMisfit shape h place → place < length h
@@ -17,17 +17,17 @@ misfit_inside shape h place first = slice_get_within h place first.misfit.0 firs
 -- ---- node by node
 
 -- before the first node nothing is illegal
-pub legal_none : (nodes : List NodeJournal) → AreLegalBefore 0 nodes
+pub legal_none : (nodes : List ReadNode) → AreLegalBefore 0 nodes
 legal_none nodes = λ k node lt here. absurd (omega arith)
 
 -- and one more legal node leaves it so
-pub legal_more : (nodes : List NodeJournal) (place : ℕ) (node : NodeJournal) → place < length nodes → node ≡ get_or nodes place node → AreLegalBefore place nodes → IsLegalNode node → AreLegalBefore (place + 1) nodes
+pub legal_more : (nodes : List ReadNode) (place : ℕ) (node : ReadNode) → place < length nodes → node ≡ get_or nodes place node → AreLegalBefore place nodes → IsLegalNode node → AreLegalBefore (place + 1) nodes
 legal_more nodes place node inside is before legal = grind (arith, cases_lt, slice_get, slice_get-get_or)
 
 -- ---- any choice of blocks
 
 -- the node's blocks are the least ones
-abbrev pub HasLeastBlocks : NodeJournal → Type 0
+abbrev pub HasLeastBlocks : ReadNode → Type 0
 HasLeastBlocks node = (h : History) × (node.events ≡ with_least_blocks node.shape h)
 
 -- each node that lines tell has them
@@ -44,24 +44,24 @@ unfolding journals_with
 all_least lines = each_least 1 lines
 
 -- what is read, where nothing is at fault, is told by lines
-abbrev no_journals : Fault → Result Journals Fault
+abbrev no_journals : Fault → Result ReadJournals Fault
 no_journals fault = Err fault
 
-lines_read : (long : Bool) (fault : Fault) (read : Result (List Line) Fault) (journals : Journals) → cond long (no_journals fault) (read >>= λ lines. Ok (journals_with lines)) ≡ Ok journals → (lines : List Line) × (journals_with lines ≡ journals)
+lines_read : (long : Bool) (fault : Fault) (read : Result (List Line) Fault) (journals : ReadJournals) → cond long (no_journals fault) (read >>= λ lines. Ok (journals_with lines)) ≡ Ok journals → (lines : List Line) × (journals_with lines ≡ journals)
 lines_read x fault read journals e = grind arith
 
-lines_of_journals : (most : ℕ) (text : Text) (journals : Journals) → journals_within most text ≡ Ok journals → (lines : List Line) × (journals_with lines ≡ journals)
+lines_of_journals : (most : ℕ) (text : Text) (journals : ReadJournals) → journals_within most text ≡ Ok journals → (lines : List Line) × (journals_with lines ≡ journals)
 unfolding journals_within
 lines_of_journals most text journals e = lines_read (nat_lt most (length text)) (0, TooLong) (lines_from 1 Start (lines_of text)) journals e
 
-least_read : (most : ℕ) (text : Text) (journals : Journals) → journals_within most text ≡ Ok journals → All HasLeastBlocks journals.nodes
+least_read : (most : ℕ) (text : Text) (journals : ReadJournals) → journals_within most text ≡ Ok journals → All HasLeastBlocks journals.nodes
 least_read most text journals e =
     let told = lines_of_journals most text journals e in
-    let P : Journals → Type 0 = λ js. All HasLeastBlocks js.nodes in
+    let P : ReadJournals → Type 0 = λ js. All HasLeastBlocks js.nodes in
     subst P told.1 (all_least told.0)
 
 -- where some choice of blocks is legal, the least blocks are
-legal_if_any : (node : NodeJournal) → HasLeastBlocks node → CanBeLegal node → IsLegalNode node
+legal_if_any : (node : ReadNode) → HasLeastBlocks node → CanBeLegal node → IsLegalNode node
 legal_if_any node least can = grind (arith, least_same, least_is_legal)
 
 -- a legal history has no misfit
@@ -69,14 +69,14 @@ pub misfit_is_illegal : (shape : Shape) (h : History) (place : ℕ) → IsFirstM
 misfit_is_illegal shape h place first legal = first.misfit.2 (legal.each place first.misfit.0 first.misfit.1)
 
 -- an element that was found has what all have
-pub found_has : (P : NodeJournal → Type 0) (nodes : List NodeJournal) (place : ℕ) (node : NodeJournal) → slice_get nodes place ≡ Some node → All P nodes → P node
+pub found_has : (P : ReadNode → Type 0) (nodes : List ReadNode) (place : ℕ) (node : ReadNode) → slice_get nodes place ≡ Some node → All P nodes → P node
 found_has P nodes place node here all =
     let inside : place < length nodes = slice_get_within nodes place node here in
     let there : slice_get nodes place ≡ Some (get_or nodes place node) = slice_get-get_or nodes place node inside in
     let same : get_or nodes place node ≡ node = cc in
     subst P same (all place node inside)
 
-pub none_wronged : (nodes : List NodeJournal) (line : Option ℕ) → All HasLeastBlocks nodes → ReportsIllegal nodes line → All CanBeLegal nodes → line ≡ None
+pub none_wronged : (nodes : List ReadNode) (line : Option ℕ) → All HasLeastBlocks nodes → ReportsIllegal nodes line → All CanBeLegal nodes → line ≡ None
 none_wronged nodes None least told can = refl
 none_wronged nodes (Some line) least told can =
     let node = told.node in
@@ -85,8 +85,8 @@ none_wronged nodes (Some line) least told can =
     absurd (misfit_is_illegal node.shape node.events told.first.place told.first.misfit legal)
 
 -- the answer to a text is no line where some choice of blocks is legal
-pub free_choice : (most : ℕ) (text : Text) (journals : Journals) (line : Option ℕ) → journals_within most text ≡ Ok journals → ReportsIllegal journals.nodes line → (others : Journals) → journals_within most text ≡ Ok others → All CanBeLegal others.nodes → line ≡ None
+pub free_choice : (most : ℕ) (text : Text) (journals : ReadJournals) (line : Option ℕ) → journals_within most text ≡ Ok journals → ReportsIllegal journals.nodes line → (others : ReadJournals) → journals_within most text ≡ Ok others → All CanBeLegal others.nodes → line ≡ None
 free_choice most text journals line read told others read-too can =
     let same : others ≡ journals = cc in
-    let P : Journals → Type 0 = λ js. All CanBeLegal js.nodes in
+    let P : ReadJournals → Type 0 = λ js. All CanBeLegal js.nodes in
     none_wronged journals.nodes line (least_read most text journals read) told (subst P same can)

@@ -10,7 +10,7 @@ use Rattle.thp_history.proofs.LegalSteps.{legal_none}
 use Rattle.thp_history.proofs.ListPlaces.{get_push, get-append_left, get_middle, get_below}
 use Rattle.thp_check.specs.declared.misfit.Misfit.{Misfit}
 use Rattle.thp_check.specs.Prelude.{Explains}
-use Rattle.thp_journal_reader.specs.Prelude.{NodeJournal, AreLegalBefore, IsFirstIllegalEvent, IsLegalNode, ReportsFirst, first_of, nodes_told, LastIsIllegal, began, on_last, with_event, with_line, IsNodeBefore, Illegal, Line}
+use Rattle.thp_journal_reader.specs.Prelude.{ReadNode, AreLegalBefore, IsFirstIllegalEvent, IsLegalNode, ReportsFirst, first_of, nodes_told, LastIsIllegal, began, on_last, with_event, with_line, IsNodeBefore, Illegal, Line}
 use Rattle.thp_journal_reader.proofs.AnswerLaws.{found_has, misfit_inside, misfit_is_illegal}
 use Rattle.thp_journal_reader.proofs.NodeLaws.{on_last-push}
 
@@ -32,18 +32,18 @@ last_misfit shape h e legal wrong =
 -- ---- nodes one of which is illegal
 
 -- one more event leaves the events before it where they are
-pub front_stays : (event : Event) (node : NodeJournal) (place : ℕ) → place < length node.events → take place (with_event event node).events ≡ take place node.events
+pub front_stays : (event : Event) (node : ReadNode) (place : ℕ) → place < length node.events → take place (with_event event node).events ≡ take place node.events
 front_stays event node place inside = take-append-le place node.events (event_with (least_free node.shape node.events) event ∷ []) (omega (arith, inside))
 
-event_stays : (event : Event) (node : NodeJournal) (place : ℕ) (there : Event) → slice_get node.events place ≡ Some there → slice_get (with_event event node).events place ≡ Some there
+event_stays : (event : Event) (node : ReadNode) (place : ℕ) (there : Event) → slice_get node.events place ≡ Some there → slice_get (with_event event node).events place ≡ Some there
 event_stays event node place there here = get-append_left node.events (event_with (least_free node.shape node.events) event ∷ []) place there here
 
 -- and so the first misfit
-pub misfit_stays : (event : Event) (node : NodeJournal) (place : ℕ) → IsFirstMisfit node.shape node.events place → IsFirstMisfit node.shape (with_event event node).events place
+pub misfit_stays : (event : Event) (node : ReadNode) (place : ℕ) → IsFirstMisfit node.shape node.events place → IsFirstMisfit node.shape (with_event event node).events place
 misfit_stays event node place first = grind (arith, front_stays, misfit_inside, event_stays)
 
 -- what stands at a place once the last was changed: what stood there, or that changed
-was_there : (f : NodeJournal → NodeJournal) (nodes : List NodeJournal) (k : ℕ) (node : NodeJournal) → slice_get nodes k ≡ Some node →
+was_there : (f : ReadNode → ReadNode) (nodes : List ReadNode) (k : ℕ) (node : ReadNode) → slice_get nodes k ≡ Some node →
     (slice_get (on_last f nodes) k ≡ Some node) ⊎ (slice_get (on_last f nodes) k ≡ Some (f node))
 was_there f [] k node here = absurd cc
 was_there f (first ∷ []) zero node here = inr (let same : first ≡ node = cc in ap (λ n. Some (f n)) same)
@@ -52,15 +52,15 @@ was_there f (first ∷ next ∷ nodes) zero node here = inl here
 was_there f (first ∷ next ∷ nodes) (suc k) node here = was_there f (next ∷ nodes) k node here
 
 -- and what stands before the last stood there
-stood_before : (f : NodeJournal → NodeJournal) (nodes : List NodeJournal) (k : ℕ) (node : NodeJournal) → k + 1 < length nodes → slice_get (on_last f nodes) k ≡ Some node → slice_get nodes k ≡ Some node
+stood_before : (f : ReadNode → ReadNode) (nodes : List ReadNode) (k : ℕ) (node : ReadNode) → k + 1 < length nodes → slice_get (on_last f nodes) k ≡ Some node → slice_get nodes k ≡ Some node
 stood_before f [] k node lt here = absurd (omega arith)
 stood_before f (first ∷ []) k node lt here = absurd (omega arith)
 stood_before f (first ∷ next ∷ nodes) zero node lt here = here
 stood_before f (first ∷ next ∷ nodes) (suc k) node lt here = stood_before f (next ∷ nodes) k node (omega arith) here
 
-pub illegal_grows : (nodes : List NodeJournal) (illegal : Illegal) (event : Event) → IsFirstIllegalEvent nodes illegal → IsFirstIllegalEvent (on_last (with_event event) nodes) illegal
+pub illegal_grows : (nodes : List ReadNode) (illegal : Illegal) (event : Event) → IsFirstIllegalEvent nodes illegal → IsFirstIllegalEvent (on_last (with_event event) nodes) illegal
 illegal_grows nodes illegal event i =
-    let f : NodeJournal → NodeJournal = with_event event in
+    let f : ReadNode → ReadNode = with_event event in
     let l = i.line in
     let before : AreLegalBefore l.place (on_last f nodes) =
     λ k node lt here. l.legal_before k node lt (stood_before f nodes k node (omega (arith, get_below nodes l.place l.node l.here)) here) in
@@ -75,7 +75,7 @@ illegal_grows nodes illegal event i =
       }
     ]
 
-pub illegal_begins : (nodes : List NodeJournal) (illegal : Illegal) (first_line : ℕ) (shape : Shape) → IsFirstIllegalEvent nodes illegal → IsFirstIllegalEvent (nodes ++ began first_line shape ∷ []) illegal
+pub illegal_begins : (nodes : List ReadNode) (illegal : Illegal) (first_line : ℕ) (shape : Shape) → IsFirstIllegalEvent nodes illegal → IsFirstIllegalEvent (nodes ++ began first_line shape ∷ []) illegal
 illegal_begins nodes illegal first_line shape i =
     let l = i.line in
     record {
@@ -95,7 +95,7 @@ illegal_begins nodes illegal first_line shape i =
     }
 
 -- the line of the first illegal event stands before the next line
-pub illegal_before : (nodes : List NodeJournal) (illegal : Illegal) (number : ℕ) → IsFirstIllegalEvent nodes illegal → All (IsNodeBefore number) nodes → illegal.line ≤ number
+pub illegal_before : (nodes : List ReadNode) (illegal : Illegal) (number : ℕ) → IsFirstIllegalEvent nodes illegal → All (IsNodeBefore number) nodes → illegal.line ≤ number
 illegal_before nodes illegal number i each =
     let l = i.line in
     let node : IsNodeBefore number l.node = found_has (λ n. IsNodeBefore number n) nodes l.place l.node l.here each in
@@ -104,31 +104,31 @@ illegal_before nodes illegal number i each =
     omega (arith, lines, inside, l.first.line_is)
 
 -- its line stands before the next line
-pub first_before : (nodes : List NodeJournal) (illegal : Option Illegal) (number most : ℕ) → ReportsFirst nodes illegal → All (IsNodeBefore number) nodes → number ≤ most + 1 → IfSome illegal (λ i. i.line ≤ most + 1)
+pub first_before : (nodes : List ReadNode) (illegal : Option Illegal) (number most : ℕ) → ReportsFirst nodes illegal → All (IsNodeBefore number) nodes → number ≤ most + 1 → IfSome illegal (λ i. i.line ≤ most + 1)
 first_before nodes None number most told each le = tt
 first_before nodes (Some illegal) number most told each le = omega (arith, illegal_before nodes illegal number told each)
 
 -- ---- the last node has an illegal event
 
 -- one behind others
-pub illegal_push : (nodes : List NodeJournal) (node : NodeJournal) (place : ℕ) → IsFirstMisfit node.shape node.events place → LastIsIllegal (nodes ++ node ∷ [])
+pub illegal_push : (nodes : List ReadNode) (node : ReadNode) (place : ℕ) → IsFirstMisfit node.shape node.events place → LastIsIllegal (nodes ++ node ∷ [])
 illegal_push [] node place first = (place, first)
 illegal_push (n ∷ []) node place first = (place, first)
 illegal_push (n ∷ m ∷ nodes) node place first = illegal_push (m ∷ nodes) node place first
 
 -- one more event leaves it illegal
-pub illegal_stays : (event : Event) (nodes : List NodeJournal) → LastIsIllegal nodes → LastIsIllegal (on_last (with_event event) nodes)
+pub illegal_stays : (event : Event) (nodes : List ReadNode) → LastIsIllegal nodes → LastIsIllegal (on_last (with_event event) nodes)
 illegal_stays event [] last = tt
 illegal_stays event (n ∷ []) last = (last.0, misfit_stays event n last.0 last.1)
 illegal_stays event (n ∷ m ∷ []) last = illegal_stays event (m ∷ []) last
 illegal_stays event (n ∷ m ∷ k ∷ nodes) last = illegal_stays event (m ∷ k ∷ nodes) last
 
 -- so not all nodes are legal
-last_found : (node : NodeJournal) (nodes : List NodeJournal) → LastIsIllegal (node ∷ nodes) → (k : ℕ) × (n : NodeJournal) × (slice_get (node ∷ nodes) k ≡ Some n) × (place : ℕ) × IsFirstMisfit n.shape n.events place
+last_found : (node : ReadNode) (nodes : List ReadNode) → LastIsIllegal (node ∷ nodes) → (k : ℕ) × (n : ReadNode) × (slice_get (node ∷ nodes) k ≡ Some n) × (place : ℕ) × IsFirstMisfit n.shape n.events place
 last_found node [] last = (0, node, refl, last.0, last.1)
 last_found node (next ∷ nodes) last = let found = last_found next nodes last in (suc found.0, found.1, found.2, found.3, found.4)
 
-not_legal : (node : NodeJournal) (nodes : List NodeJournal) → LastIsIllegal (node ∷ nodes) → ReportsFirst (node ∷ nodes) None → ⊥
+not_legal : (node : ReadNode) (nodes : List ReadNode) → LastIsIllegal (node ∷ nodes) → ReportsFirst (node ∷ nodes) None → ⊥
 not_legal node nodes last all = grind (arith, last_found, misfit_is_illegal, slice_get_within)
 
 -- ---- the first illegal event of all nodes
@@ -137,30 +137,30 @@ pub first_none : ReportsFirst [] None
 first_none = λ k node lt here. absurd (omega arith)
 
 -- one more node begins
-pub first_begins : (nodes : List NodeJournal) (illegal : Option Illegal) (first_line : ℕ) (shape : Shape) → ReportsFirst nodes illegal → ReportsFirst (nodes ++ began first_line shape ∷ []) illegal
+pub first_begins : (nodes : List ReadNode) (illegal : Option Illegal) (first_line : ℕ) (shape : Shape) → ReportsFirst nodes illegal → ReportsFirst (nodes ++ began first_line shape ∷ []) illegal
 first_begins nodes x first_line shape all = grind (arith, get_push, no_events_legal, illegal_begins)
 
 -- one more event of a node that has an illegal one
-pub first_stays : (nodes : List NodeJournal) (illegal : Option Illegal) (event : Event) → LastIsIllegal nodes → ReportsFirst nodes illegal → ReportsFirst (on_last (with_event event) nodes) illegal
+pub first_stays : (nodes : List ReadNode) (illegal : Option Illegal) (event : Event) → LastIsIllegal nodes → ReportsFirst nodes illegal → ReportsFirst (on_last (with_event event) nodes) illegal
 first_stays nodes (Some i) event last one = illegal_grows nodes i event one
 first_stays [] None event last all = all
 first_stays (n ∷ nodes) None event last all = absurd (not_legal n nodes last all)
 
 -- the next event of a node that is legal so far
-module _ (nodes before : List NodeJournal) (last : NodeJournal) (are : nodes ≡ before ++ last ∷ []) (told : Event) where
+module _ (nodes before : List ReadNode) (last : ReadNode) (are : nodes ≡ before ++ last ∷ []) (told : Event) where
   -- the nodes after it
   pub grown : on_last (with_event told) nodes ≡ before ++ with_event told last ∷ []
   grown = ap (on_last (with_event told)) are ∙ on_last-push (with_event told) before last
 
   -- the nodes before it are legal where all are
-  pub before_legal : ReportsFirst nodes None → (k : ℕ) (node : NodeJournal) → slice_get before k ≡ Some node → IsLegalNode node
+  pub before_legal : ReportsFirst nodes None → (k : ℕ) (node : ReadNode) → slice_get before k ≡ Some node → IsLegalNode node
   before_legal all k node here =
-      let there : slice_get nodes k ≡ Some node = ap (λ (ns : List NodeJournal). slice_get ns k) are ∙ get-append_left before (last ∷ []) k node here in
+      let there : slice_get nodes k ≡ Some node = ap (λ (ns : List ReadNode). slice_get ns k) are ∙ get-append_left before (last ∷ []) k node here in
       all k node (slice_get_within nodes k node there) there
 
   -- what stands behind it: one of the nodes before, or it
-  pub stands : (k : ℕ) (node : NodeJournal) → slice_get (on_last (with_event told) nodes) k ≡ Some node → ((k < length before) × (slice_get before k ≡ Some node)) ⊎ ((k ≡ length before) × (node ≡ with_event told last))
-  stands k node here = get_push before (with_event told last) k node (sym (ap (λ (ns : List NodeJournal). slice_get ns k) grown) ∙ here)
+  pub stands : (k : ℕ) (node : ReadNode) → slice_get (on_last (with_event told) nodes) k ≡ Some node → ((k < length before) × (slice_get before k ≡ Some node)) ⊎ ((k ≡ length before) × (node ≡ with_event told last))
+  stands k node here = get_push before (with_event told last) k node (sym (ap (λ (ns : List ReadNode). slice_get ns k) grown) ∙ here)
 
   -- it fits
   pub first_grows : (illegal : Option Illegal) → IsLegalNode (with_event told last) → ReportsFirst nodes illegal → ReportsFirst (on_last (with_event told) nodes) illegal
@@ -170,7 +170,7 @@ module _ (nodes before : List NodeJournal) (last : NodeJournal) (are : nodes ≡
   pub first_stops : (illegal : Option Illegal) (event : Event) (line : ℕ) (m : Misfit) → event ≡ event_with (least_free last.shape last.events) told → IsFirstMisfit last.shape (with_event told last).events (length last.events) →
       Explains last.shape last.events event m → line ≡ last.first_line + length last.events → ReportsFirst nodes illegal → ReportsFirst (on_last (with_event told) nodes) (first_of illegal (record { line = line; event = event; misfit = m }))
   first_stops None event line m placed misfit why at all =
-      let P : List NodeJournal → Type 0 = λ ns. IsFirstIllegalEvent ns (record { line = line; event = event; misfit = m }) in
+      let P : List ReadNode → Type 0 = λ ns. IsFirstIllegalEvent ns (record { line = line; event = event; misfit = m }) in
       let W : History → Type 0 = λ h. Explains last.shape h event m in
       let x : Event = event_with (least_free last.shape last.events) told in
       subst P (sym grown) (record {

@@ -9,14 +9,14 @@ use Rattle.thp_history.proofs.ListPlaces.{get_middle}
 use Rattle.thp_check.specs.declared.misfit.Misfit.{Misfit}
 use Rattle.thp_check.specs.Prelude.{Explains, Replayed, with_event as replayed_with}
 use Rattle.thp_script.specs.Prelude.{max_counted}
-use Rattle.thp_journal_reader.specs.Prelude.{FollowedNodes, Follower, Illegal, NodeJournal, Line, IsLegalNode, ReportsFirst, first_of, has_stopped, nodes_told, AreKept, EndsAt, Follows, FollowsBy, FollowsLines, HasEnded, HasNone, HasRoom, HasRoomIn, IsKept, LastIsIllegal, StopsWith, IsInRange, began, on_last, with_event, with_line, IsNodeBefore}
+use Rattle.thp_journal_reader.specs.Prelude.{FollowedNodes, Follower, Illegal, ReadNode, Line, IsLegalNode, ReportsFirst, first_of, has_stopped, nodes_told, AreKept, EndsAt, Follows, FollowsBy, FollowsLines, HasEnded, HasNone, HasRoom, HasRoomIn, IsKept, LastIsIllegal, StopsWith, IsInRange, began, on_last, with_event, with_line, IsNodeBefore}
 use Rattle.thp_journal_reader.proofs.AnswerLaws.{found_has, legal_more, legal_none, misfit_inside, misfit_is_illegal}
 use Rattle.thp_journal_reader.proofs.CheckLaws.{first_grows, first_none, first_stays, first_stops, front_stays, grown, illegal_grows, illegal_push, illegal_stays, last_misfit, misfit_stays, no_events_legal, told_none, told_push}
 use Rattle.thp_journal_reader.proofs.NodeLaws.{each_step}
 use Rattle.thp_journal_reader.proofs.ZipLaws.{zip_push}
 
 -- a legal node tells no illegal event
-legal_alone : (node : NodeJournal) → IsLegalNode node → ReportsFirst (node ∷ []) None
+legal_alone : (node : ReadNode) → IsLegalNode node → ReportsFirst (node ∷ []) None
 legal_alone node legal = legal_more (node ∷ []) 0 node (omega arith) refl (legal_none (node ∷ [])) legal
 
 -- where nodes are followed on, none has stopped
@@ -27,7 +27,7 @@ module _ {K : Type 0} (keeps : Shape → History → Option Illegal → K → Ty
   -- ---- what is kept of nodes
 
   -- one more event of a node that has an illegal one changes nothing
-  kept_stays : (event : Event) (node : NodeJournal) (kept : K) (place : ℕ) → IsFirstMisfit node.shape node.events place → IsKept keeps node kept → IsKept keeps (with_event event node) kept
+  kept_stays : (event : Event) (node : ReadNode) (kept : K) (place : ℕ) → IsFirstMisfit node.shape node.events place → IsKept keeps node kept → IsKept keeps (with_event event node) kept
   kept_stays event node kept place first is = elim (is.legal) [
     | inl whole ↦ absurd (misfit_is_illegal node.shape node.events place first whole.0)
     | inr front ↦ record {
@@ -43,7 +43,7 @@ module _ {K : Type 0} (keeps : Shape → History → Option Illegal → K → Ty
     }
   ]
 
-  all_stay : (event : Event) (nodes : List NodeJournal) (kept : List K) → LastIsIllegal nodes → AreKept keeps nodes kept → AreKept keeps (on_last (with_event event) nodes) kept
+  all_stay : (event : Event) (nodes : List ReadNode) (kept : List K) → LastIsIllegal nodes → AreKept keeps nodes kept → AreKept keeps (on_last (with_event event) nodes) kept
   all_stay event [] kept last are = are
   all_stay event (n ∷ []) [] last are = absurd are
   all_stay event (n ∷ []) (k ∷ kept) last are = (kept_stays event n k last.0 last.1 are.0, are.1)
@@ -53,15 +53,15 @@ module _ {K : Type 0} (keeps : Shape → History → Option Illegal → K → Ty
   -- ---- step by step
 
   -- no node is at hand: an event changes nothing
-  pub still : (follows_all : Bool) (nodes : List NodeJournal) (illegal : Option Illegal) (kept : List K) (event : Event) → ReportsFirst nodes illegal → HasNone keeps follows_all nodes illegal kept →
+  pub still : (follows_all : Bool) (nodes : List ReadNode) (illegal : Option Illegal) (kept : List K) (event : Event) → ReportsFirst nodes illegal → HasNone keeps follows_all nodes illegal kept →
       ReportsFirst (on_last (with_event event) nodes) illegal × HasNone keeps follows_all (on_last (with_event event) nodes) illegal kept
   still follows_all nodes illegal kept event first known = grind (arith, first_stays, all_stay, illegal_stays, stopped_some, illegal_grows)
 
   -- the last node has no further event: it is kept
-  pub ends : (nodes : List NodeJournal) (replay : Replayed) (next_line : ℕ) (kept new : List K) (more : K) → EndsAt keeps nodes replay next_line kept → keeps replay.shape replay.history None more → new ≡ kept ++ more ∷ [] → AreKept keeps nodes new
+  pub ends : (nodes : List ReadNode) (replay : Replayed) (next_line : ℕ) (kept new : List K) (more : K) → EndsAt keeps nodes replay next_line kept → keeps replay.shape replay.history None more → new ≡ kept ++ more ∷ [] → AreKept keeps nodes new
   ends nodes replay next_line kept new more e is are =
       let T : Replayed → Type 0 = λ r. keeps r.shape r.history None more in
-      let P : List NodeJournal → Type 0 = λ ns. AreKept keeps ns new in
+      let P : List ReadNode → Type 0 = λ ns. AreKept keeps ns new in
       let Q : List K → Type 0 = λ ks. AreKept keeps (e.before ++ e.last ∷ []) ks in
       subst P (sym e.nodes_are) (subst Q (sym are) (zip_push (IsKept keeps) e.before kept e.last more e.kept_are (record {
         front = e.last.events;
@@ -72,7 +72,7 @@ module _ {K : Type 0} (keeps : Shape → History → Option Illegal → K → Ty
       })))
 
   -- one more node begins behind nodes that are kept
-  pub begins : (nodes : List NodeJournal) (kept : List K) (replay : Replayed) (first_line : ℕ) (shape : Shape) → AreKept keeps nodes kept → replay.shape ≡ shape → replay.history ≡ [] → EndsAt keeps (nodes ++ began first_line shape ∷ []) replay first_line kept
+  pub begins : (nodes : List ReadNode) (kept : List K) (replay : Replayed) (first_line : ℕ) (shape : Shape) → AreKept keeps nodes kept → replay.shape ≡ shape → replay.history ≡ [] → EndsAt keeps (nodes ++ began first_line shape ∷ []) replay first_line kept
   begins nodes kept replay first_line shape are same none = record {
     before = nodes;
     last = began first_line shape;
@@ -83,7 +83,7 @@ module _ {K : Type 0} (keeps : Shape → History → Option Illegal → K → Ty
     kept_are = are;
   }
 
-  module _ (nodes : List NodeJournal) (replay : Replayed) (next_line : ℕ) (kept : List K) (e : EndsAt keeps nodes replay next_line kept) (told event : Event) (placed : event ≡ event_with (least_free replay.shape replay.history) told) where
+  module _ (nodes : List ReadNode) (replay : Replayed) (next_line : ℕ) (kept : List K) (e : EndsAt keeps nodes replay next_line kept) (told event : Event) (placed : event ≡ event_with (least_free replay.shape replay.history) told) where
     -- the last node's event, in its block
     there : event ≡ event_with (least_free e.last.shape e.last.events) told
     there = placed ∙ ap (λ (r : Replayed). event_with (least_free r.shape r.history) told) e.replay_is
@@ -122,19 +122,19 @@ module _ {K : Type 0} (keeps : Shape → History → Option Illegal → K → Ty
       explained = let W : Replayed → Type 0 = λ r. Explains r.shape r.history event m in subst W e.replay_is why
 
       -- the first illegal event of these nodes, with the last of them behind others or alone
-      found : (ns before : List NodeJournal) → ns ≡ before ++ e.last ∷ [] → (illegal : Option Illegal) → ReportsFirst ns illegal → ReportsFirst (on_last (with_event told) ns) (first_of illegal (record { line = next_line; event = event; misfit = m }))
+      found : (ns before : List ReadNode) → ns ≡ before ++ e.last ∷ [] → (illegal : Option Illegal) → ReportsFirst ns illegal → ReportsFirst (on_last (with_event told) ns) (first_of illegal (record { line = next_line; event = event; misfit = m }))
       found ns before are illegal first = first_stops ns before e.last are told illegal event next_line m there misfit explained e.next_is first
 
       pub stops : {R : Type 0} (leaves : Replayed → R → Type 0) (rest : R) (illegal new : Option Illegal) (new_kept : List K) → ReportsFirst nodes illegal → leaves replay rest → StopsWith keeps leaves rest (record { line = next_line; event = event; misfit = m }) illegal kept new new_kept →
           ReportsFirst (on_last (with_event told) nodes) new × AreKept keeps (on_last (with_event told) nodes) new_kept × LastIsIllegal (on_last (with_event told) nodes)
       stops leaves rest illegal new new_kept first left s =
           let here : Illegal = record { line = next_line; event = event; misfit = m } in
-          let last : NodeJournal = with_event told e.last in
+          let last : ReadNode = with_event told e.last in
           let are = grown nodes e.before e.last e.nodes_are told in
           let F : Option Illegal → Type 0 = λ i. ReportsFirst (on_last (with_event told) nodes) i in
-          let P : List NodeJournal → Type 0 = λ ns. AreKept keeps ns new_kept in
+          let P : List ReadNode → Type 0 = λ ns. AreKept keeps ns new_kept in
           let Q : List K → Type 0 = λ ks. AreKept keeps (e.before ++ last ∷ []) ks in
-          let L : List NodeJournal → Type 0 = λ ns. LastIsIllegal ns in
+          let L : List ReadNode → Type 0 = λ ns. LastIsIllegal ns in
           let T : Replayed → Type 0 = λ r. keeps r.shape r.history (Some here) s.more in (
             subst F (sym s.illegal_is) (found nodes e.before e.nodes_are illegal first),
             subst P (sym are) (subst Q (sym s.kept_are) (zip_push (IsKept keeps) e.before kept last s.more e.kept_are (record {
@@ -148,38 +148,38 @@ module _ {K : Type 0} (keeps : Shape → History → Option Illegal → K → Ty
           )
 
   -- the last node has ended, as none is at hand
-  pub none_ended : (follows_all : Bool) (nodes : List NodeJournal) (illegal : Option Illegal) (kept : List K) → HasNone keeps follows_all nodes illegal kept → AreKept keeps nodes kept ⊎ (has_stopped follows_all illegal ≡ true)
+  pub none_ended : (follows_all : Bool) (nodes : List ReadNode) (illegal : Option Illegal) (kept : List K) → HasNone keeps follows_all nodes illegal kept → AreKept keeps nodes kept ⊎ (has_stopped follows_all illegal ≡ true)
   none_ended follows_all nodes illegal kept known = elim known [ inl w ↦ inl w.0 | inr stopped ↦ inr stopped ]
 
   -- where the next node is followed, the others are kept
-  pub not_stopped : (follows_all : Bool) (nodes : List NodeJournal) (illegal : Option Illegal) (kept : List K) → AreKept keeps nodes kept ⊎ (has_stopped follows_all illegal ≡ true) → has_stopped follows_all illegal ≡ false → AreKept keeps nodes kept
+  pub not_stopped : (follows_all : Bool) (nodes : List ReadNode) (illegal : Option Illegal) (kept : List K) → AreKept keeps nodes kept ⊎ (has_stopped follows_all illegal ≡ true) → has_stopped follows_all illegal ≡ false → AreKept keeps nodes kept
   not_stopped follows_all nodes illegal kept known goes = elim known [ inl are ↦ are | inr stopped ↦ absurd cc ]
 
   -- where all nodes are followed, each is kept
-  pub ended_kept : (nodes : List NodeJournal) (illegal : Option Illegal) (kept : List K) → HasEnded keeps true nodes illegal kept → AreKept keeps nodes kept
+  pub ended_kept : (nodes : List ReadNode) (illegal : Option Illegal) (kept : List K) → HasEnded keeps true nodes illegal kept → AreKept keeps nodes kept
   ended_kept nodes illegal kept ended = grind arith
 
   -- ---- the follower
 
   module _ {F : Type 0} (replayed : F → Replayed) (follows_all : Bool) where
     -- a node is at hand
-    pub at_hand_is : (nodes : List NodeJournal) (o : Option F) (next_line : ℕ) (illegal : Option Illegal) (kept : List K) → FollowsBy replayed keeps follows_all nodes o next_line illegal kept → (node : F) → o ≡ Some node → EndsAt keeps nodes (replayed node) next_line kept
+    pub at_hand_is : (nodes : List ReadNode) (o : Option F) (next_line : ℕ) (illegal : Option Illegal) (kept : List K) → FollowsBy replayed keeps follows_all nodes o next_line illegal kept → (node : F) → o ≡ Some node → EndsAt keeps nodes (replayed node) next_line kept
     at_hand_is nodes x next_line illegal kept known node is = grind arith
 
     -- none is
-    pub none_is : (nodes : List NodeJournal) (o : Option F) (next_line : ℕ) (illegal : Option Illegal) (kept : List K) → FollowsBy replayed keeps follows_all nodes o next_line illegal kept → o ≡ None → HasNone keeps follows_all nodes illegal kept
+    pub none_is : (nodes : List ReadNode) (o : Option F) (next_line : ℕ) (illegal : Option Illegal) (kept : List K) → FollowsBy replayed keeps follows_all nodes o next_line illegal kept → o ≡ None → HasNone keeps follows_all nodes illegal kept
     none_is nodes x next_line illegal kept known none = grind arith
 
     -- and the other way round
-    pub follows_none : (nodes : List NodeJournal) (new : Follower F K) → new.at_hand ≡ None → ReportsFirst nodes new.illegal → HasNone keeps follows_all nodes new.illegal new.kept.items → Follows replayed keeps follows_all nodes new
+    pub follows_none : (nodes : List ReadNode) (new : Follower F K) → new.at_hand ≡ None → ReportsFirst nodes new.illegal → HasNone keeps follows_all nodes new.illegal new.kept.items → Follows replayed keeps follows_all nodes new
     follows_none nodes new none first known = grind arith
 
     -- there is room for one more event of a node whose next line has a number that is counted
-    room_by : (number : ℕ) (nodes : List NodeJournal) (o : Option F) (next_line : ℕ) (illegal : Option Illegal) (kept : List K) → FollowsBy replayed keeps follows_all nodes o next_line illegal kept → All (IsNodeBefore number) nodes → number ≤ max_counted →
+    room_by : (number : ℕ) (nodes : List ReadNode) (o : Option F) (next_line : ℕ) (illegal : Option Illegal) (kept : List K) → FollowsBy replayed keeps follows_all nodes o next_line illegal kept → All (IsNodeBefore number) nodes → number ≤ max_counted →
         IfSome o (λ node. HasRoomIn next_line (replayed node))
     room_by number nodes None next_line illegal kept known each below = tt
     room_by number nodes (Some node) next_line illegal kept e each below =
-        let P : List NodeJournal → Type 0 = λ ns. All (IsNodeBefore number) ns in
+        let P : List ReadNode → Type 0 = λ ns. All (IsNodeBefore number) ns in
         let last : IsNodeBefore number e.last = found_has (λ n. IsNodeBefore number n) (e.before ++ e.last ∷ []) (length e.before) e.last (get_middle e.before e.last []) (subst P e.nodes_are each) in
         let lines : e.last.first_line + length e.last.events ≤ number = last.lines in
         let events : length (replayed node).history ≡ length e.last.events = ap (λ (r : Replayed). length r.history) e.replay_is in
@@ -199,5 +199,5 @@ module _ {K : Type 0} (keeps : Shape → History → Option Illegal → K → Ty
         Follows replayed keeps follows_all (with_line number (nodes_told old.lines) line) new.follower → FollowsLines replayed keeps follows_all (number + 1) new
     goes_on number old new line along in-range lines follows =
         let told : nodes_told new.lines ≡ with_line number (nodes_told old.lines) line = ap nodes_told lines ∙ told_push old.lines number line in
-        let P : List NodeJournal → Type 0 = λ ns. Follows replayed keeps follows_all ns new.follower in
+        let P : List ReadNode → Type 0 = λ ns. Follows replayed keeps follows_all ns new.follower in
         record { each = each_step number (nodes_told old.lines) (nodes_told new.lines) line told in-range along.each; follows = subst P (sym told) follows }

@@ -8,7 +8,7 @@ use Rattle.thp_history.specs.Prelude.{event_with, least_free, with_least_blocks,
 use Rattle.thp_script.specs.declared.fault.ReadFault.{ReadFault}
 use Rattle.thp_script.specs.declared.fault.ReadFault.TheVariants.{OutOfMemory}
 use Rattle.thp_script.specs.Prelude.{Fault, ReportsFault}
-use Rattle.thp_journal_reader.specs.Prelude.{Journals, NodeJournal, Line, Head, Node, Happened, End, events_of, node_journal, nodes_of, IsNodeJournal, IsInRange, began, on_last, with_event, with_line, IsNodeBefore}
+use Rattle.thp_journal_reader.specs.Prelude.{ReadJournals, ReadNode, Line, Head, Node, Happened, End, events_of, node_journal, nodes_of, IsNodeJournal, IsInRange, began, on_last, with_event, with_line, IsNodeBefore}
 
 -- ---- the events of a node
 
@@ -36,8 +36,8 @@ pub record AddsHere (number : ℕ) (lines : List Line) (event : Event) : Type 0 
 
 -- among these lines another node begins, and one more event is none of the node before them
 pub record AddsThere (number : ℕ) (lines : List Line) (event : Event) : Type 0 where
-  pub node : NodeJournal
-  pub nodes : List NodeJournal
+  pub node : ReadNode
+  pub nodes : List ReadNode
   pub some : nodes_of number lines ≡ node ∷ nodes
   pub there : events_of (lines ++ Happened event ∷ []) ≡ events_of lines
 
@@ -64,25 +64,25 @@ event_adds number (End ∷ lines) event =
 -- ---- the nodes after one more line
 
 -- lines after the first are numbered from the next number on
-one_further : (number : ℕ) (lines : List Line) (nodes : List NodeJournal) (line : Line) → with_line (number + 1 + length lines) nodes line ≡ with_line (number + suc (length lines)) nodes line
+one_further : (number : ℕ) (lines : List Line) (nodes : List ReadNode) (line : Line) → with_line (number + 1 + length lines) nodes line ≡ with_line (number + suc (length lines)) nodes line
 one_further number lines nodes line = grind arith
 
 -- a node's journal in front of nodes that get one more line
 module _ (number : ℕ) (shape : Shape) (lines : List Line) where
-  journal_in_front : (h k : History) (nodes more : List NodeJournal) → h ≡ k → nodes ≡ more → node_journal number shape h ∷ nodes ≡ node_journal number shape k ∷ more
-  journal_in_front h k nodes more e f = ap (λ (g : History). node_journal number shape g ∷ nodes) e ∙ ap (λ (ns : List NodeJournal). node_journal number shape k ∷ ns) f
+  journal_in_front : (h k : History) (nodes more : List ReadNode) → h ≡ k → nodes ≡ more → node_journal number shape h ∷ nodes ≡ node_journal number shape k ∷ more
+  journal_in_front h k nodes more e f = ap (λ (g : History). node_journal number shape g ∷ nodes) e ∙ ap (λ (ns : List ReadNode). node_journal number shape k ∷ ns) f
 
   -- one more event, where no other node begins before it
-  event_here : (event : Event) (nodes more : List NodeJournal) (h : History) → nodes ≡ [] → more ≡ on_last (with_event event) nodes → h ≡ events_of lines ++ event ∷ []
+  event_here : (event : Event) (nodes more : List ReadNode) (h : History) → nodes ≡ [] → more ≡ on_last (with_event event) nodes → h ≡ events_of lines ++ event ∷ []
       → node_journal number shape h ∷ more ≡ on_last (with_event event) (node_journal number shape (events_of lines) ∷ nodes)
   event_here event nodes more h none e here =
-      let nothing : more ≡ [] = e ∙ ap (λ (ns : List NodeJournal). on_last (with_event event) ns) none in
+      let nothing : more ≡ [] = e ∙ ap (λ (ns : List ReadNode). on_last (with_event event) ns) none in
       journal_in_front h (events_of lines ++ event ∷ []) more [] here nothing
       ∙ ap (λ (k : History). record { shape = shape; first_line = number; events = k } ∷ []) (least_push shape (events_of lines) event)
-      ∙ ap (λ (ns : List NodeJournal). on_last (with_event event) (node_journal number shape (events_of lines) ∷ ns)) (sym none)
+      ∙ ap (λ (ns : List ReadNode). on_last (with_event event) (node_journal number shape (events_of lines) ∷ ns)) (sym none)
 
   -- and where one does
-  event_there : (event : Event) (nodes more : List NodeJournal) (node : NodeJournal) (others : List NodeJournal) (h : History) → nodes ≡ node ∷ others → more ≡ on_last (with_event event) nodes → h ≡ events_of lines
+  event_there : (event : Event) (nodes more : List ReadNode) (node : ReadNode) (others : List ReadNode) (h : History) → nodes ≡ node ∷ others → more ≡ on_last (with_event event) nodes → h ≡ events_of lines
       → node_journal number shape h ∷ more ≡ on_last (with_event event) (node_journal number shape (events_of lines) ∷ nodes)
   event_there event nodes more node others h some e there = grind (arith, journal_in_front)
 
@@ -110,29 +110,29 @@ nodes_of-push number (Node n shape ∷ lines) (Happened event) =
     ]
 
 -- the last of some nodes that another stands behind is that one
-pub on_last-push : (f : NodeJournal → NodeJournal) (nodes : List NodeJournal) (node : NodeJournal) → on_last f (nodes ++ node ∷ []) ≡ nodes ++ f node ∷ []
+pub on_last-push : (f : ReadNode → ReadNode) (nodes : List ReadNode) (node : ReadNode) → on_last f (nodes ++ node ∷ []) ≡ nodes ++ f node ∷ []
 on_last-push f [] node = refl
 on_last-push f (first ∷ []) node = refl
-on_last-push f (first ∷ next ∷ nodes) node = ap (λ (ns : List NodeJournal). first ∷ ns) (on_last-push f (next ∷ nodes) node)
+on_last-push f (first ∷ next ∷ nodes) node = ap (λ (ns : List ReadNode). first ∷ ns) (on_last-push f (next ∷ nodes) node)
 
 -- the last node of those that were read gets one more event
-pub last_grows : (f : NodeJournal → NodeJournal) (closed : List NodeJournal) (last grown : NodeJournal) (nodes : List NodeJournal) → grown ≡ f last → nodes ≡ closed ++ last ∷ [] → closed ++ grown ∷ [] ≡ on_last f nodes
+pub last_grows : (f : ReadNode → ReadNode) (closed : List ReadNode) (last grown : ReadNode) (nodes : List ReadNode) → grown ≡ f last → nodes ≡ closed ++ last ∷ [] → closed ++ grown ∷ [] ≡ on_last f nodes
 last_grows f closed last grown nodes is are = rw (is, are) (sym (on_last-push f closed last))
 
 -- ---- what is known of the nodes
 
-later : (number : ℕ) (node : NodeJournal) → IsNodeBefore number node → IsNodeBefore (number + 1) node
+later : (number : ℕ) (node : ReadNode) → IsNodeBefore number node → IsNodeBefore (number + 1) node
 later number node h = let before : node.first_line + length node.events ≤ number = h.lines in record { shape = h.shape; lines = omega arith }
 
-all_later : (number : ℕ) (nodes : List NodeJournal) → All (IsNodeBefore number) nodes → All (IsNodeBefore (number + 1)) nodes
+all_later : (number : ℕ) (nodes : List ReadNode) → All (IsNodeBefore number) nodes → All (IsNodeBefore (number + 1)) nodes
 all_later number [] all = All-nil (IsNodeBefore (number + 1))
 all_later number (node ∷ nodes) all =
     All-cons (IsNodeBefore (number + 1)) node nodes (later number node (all 0 node (omega arith))) (all_later number nodes (All-tail (IsNodeBefore number) node nodes all))
 
-one_event_more : (number : ℕ) (event : Event) (node : NodeJournal) → IsNodeBefore number node → IsNodeBefore (number + 1) (with_event event node)
+one_event_more : (number : ℕ) (event : Event) (node : ReadNode) → IsNodeBefore number node → IsNodeBefore (number + 1) (with_event event node)
 one_event_more number event node h = grind (arith, first_line, length-append)
 
-last_later : (number : ℕ) (event : Event) (nodes : List NodeJournal) → All (IsNodeBefore number) nodes → All (IsNodeBefore (number + 1)) (on_last (with_event event) nodes)
+last_later : (number : ℕ) (event : Event) (nodes : List ReadNode) → All (IsNodeBefore number) nodes → All (IsNodeBefore (number + 1)) (on_last (with_event event) nodes)
 last_later number event [] all = All-nil (IsNodeBefore (number + 1))
 last_later number event (node ∷ []) all =
     All-cons (IsNodeBefore (number + 1)) (with_event event node) [] (one_event_more number event node (all 0 node (omega arith))) (All-nil (IsNodeBefore (number + 1)))
@@ -140,7 +140,7 @@ last_later number event (node ∷ next ∷ nodes) all =
     All-cons (IsNodeBefore (number + 1)) node (on_last (with_event event) (next ∷ nodes)) (later number node (all 0 node (omega arith)))
     (last_later number event (next ∷ nodes) (All-tail (IsNodeBefore number) node (next ∷ nodes) all))
 
-each_with_line : (number : ℕ) (nodes : List NodeJournal) (line : Line) → IsInRange line → All (IsNodeBefore number) nodes → All (IsNodeBefore (number + 1)) (with_line number nodes line)
+each_with_line : (number : ℕ) (nodes : List ReadNode) (line : Line) → IsInRange line → All (IsNodeBefore number) nodes → All (IsNodeBefore (number + 1)) (with_line number nodes line)
 each_with_line number nodes (Head version) in-range all = all_later number nodes all
 each_with_line number nodes End in-range all = all_later number nodes all
 each_with_line number nodes (Happened event) in-range all = last_later number event nodes all
@@ -148,14 +148,14 @@ each_with_line number nodes (Node n shape) in-range all =
     let here : number + 1 + 0 ≤ number + 1 = omega arith in
     All-push (IsNodeBefore (number + 1)) nodes (began (number + 1) shape) (all_later number nodes all) (record { shape = in-range.1; lines = here })
 
-pub each_step : (number : ℕ) (old new : List NodeJournal) (line : Line) → new ≡ with_line number old line → IsInRange line → All (IsNodeBefore number) old → All (IsNodeBefore (number + 1)) new
+pub each_step : (number : ℕ) (old new : List ReadNode) (line : Line) → new ≡ with_line number old line → IsInRange line → All (IsNodeBefore number) old → All (IsNodeBefore (number + 1)) new
 each_step number old new line is in-range all = rw is (each_with_line number old line in-range all)
 
-in_range : (number : ℕ) (node : NodeJournal) → number ≤ 16777217 → IsNodeBefore number node → IsNodeJournal node
+in_range : (number : ℕ) (node : ReadNode) → number ≤ 16777217 → IsNodeBefore number node → IsNodeJournal node
 in_range number node le h = let before : node.first_line + length node.events ≤ number = h.lines in record { shape = h.shape; lines = omega arith }
 
 -- at the end of the text each node has lines that there may be
-pub all_in_range : (number : ℕ) (nodes : List NodeJournal) → number ≤ 16777217 → All (IsNodeBefore number) nodes → All IsNodeJournal nodes
+pub all_in_range : (number : ℕ) (nodes : List ReadNode) → number ≤ 16777217 → All (IsNodeBefore number) nodes → All IsNodeJournal nodes
 all_in_range number [] le all = All-nil IsNodeJournal
 all_in_range number (node ∷ nodes) le all =
     All-cons IsNodeJournal node nodes (in_range number node le (all 0 node (omega arith))) (all_in_range number nodes le (All-tail (IsNodeBefore number) node nodes all))
@@ -165,5 +165,5 @@ all_in_range number (node ∷ nodes) le all =
 pub if_ok : {A E : Type 0} (r : Result A E) (P Q : A → Type 0) → IfOk r P → ((x : A) → P x → Q x) → IfOk r Q
 if_ok x y z h f = grind arith
 
-pub tells_memory : {A : Type 0} (r : Result A ReadFault) (read : Result Journals Fault) → IfErr r (λ fault. fault ≡ OutOfMemory) → IfErr r (ReportsFault read)
+pub tells_memory : {A : Type 0} (r : Result A ReadFault) (read : Result ReadJournals Fault) → IfErr r (λ fault. fault ≡ OutOfMemory) → IfErr r (ReportsFault read)
 tells_memory x read h = grind arith

@@ -4,7 +4,7 @@ use Rattle.thp_history.specs.declared.events.Event.{Event}
 use Rattle.thp_script.specs.declared.fault.TextKind.{TextKind}
 use Rattle.thp_script.specs.Prelude.{fault_after, ◌>>=◌, Fault, nothing_of, Text, lines_of}
 use Rattle.thp_script.proofs.TextLaws.{first_line, whole_comes}
-use Rattle.thp_journal_reader.specs.Prelude.{NodeJournal, Line, Happened, Place, Start, Inside, Version, FastEvent, line_in, place_after, journals_with, journals_within, lines_from, nodes_of, journals_in, lines_tell, told_with, with_lines, fault_at, with_line}
+use Rattle.thp_journal_reader.specs.Prelude.{ReadNode, Line, Happened, Place, Start, Inside, Version, FastEvent, line_in, place_after, journals_with, journals_within, lines_from, nodes_of, journals_in, lines_tell, told_with, with_lines, fault_at, with_line}
 use Rattle.thp_journal_reader.proofs.JournalLaws.{behind, ends_none, ends_some, line_ends, line_fails, line_says}
 use Rattle.thp_journal_reader.proofs.NodeLaws.{nodes_of-push}
 
@@ -31,12 +31,12 @@ unfolding journals_within lines_tell
 tells_all most text = rw (all_tell (lines_from 1 Start (lines_of text))) (whole_comes most text (lines_from 1 Start (lines_of text) >>= λ lines. Ok (journals_with lines)))
 
 -- a line before those behind it
-after_tells : (n : ℕ) (nodes : List NodeJournal) (line : Line) (read : Result (List Line) Fault)
+after_tells : (n : ℕ) (nodes : List ReadNode) (line : Line) (read : Result (List Line) Fault)
     → (behind (line ∷ []) read >>= λ lines. Ok (journals_in (with_lines n nodes lines))) ≡ (read >>= λ lines. Ok (journals_in (with_lines (n + 1) (with_line n nodes line) lines)))
 after_tells n nodes line x = grind arith
 
 -- a line that says something in its place, and the lines behind it
-pub line_tells : (nodes : List NodeJournal) (place : Place) (n : ℕ) (text bytes after : Text) (line : Line) → lines_of text ≡ bytes ∷ lines_of after → Ok line ≡ line_in place bytes
+pub line_tells : (nodes : List ReadNode) (place : Place) (n : ℕ) (text bytes after : Text) (line : Line) → lines_of text ≡ bytes ∷ lines_of after → Ok line ≡ line_in place bytes
     → lines_tell nodes place n text ≡ lines_tell (with_line n nodes line) (place_after place line) (n + 1) after
 unfolding lines_tell
 line_tells nodes place n text bytes after line texts says =
@@ -47,24 +47,24 @@ event_says : (v : Version) (told : ℕ) (text after : Text) (event : Event) (a :
 unfolding line_in
 event_says v told text after event a some = rw (← a.says, lt-ltb 0 told some) refl
 
-pub event_tells : (nodes : List NodeJournal) (v : Version) (told n : ℕ) (begun rest more after : Text) (event : Event) → FastEvent v rest event after → 0 < told → begun ≡ []
+pub event_tells : (nodes : List ReadNode) (v : Version) (told n : ℕ) (begun rest more after : Text) (event : Event) → FastEvent v rest event after → 0 < told → begun ≡ []
     → lines_tell nodes (Inside v told) n (begun ++ (rest ++ more)) ≡ lines_tell (with_line n nodes (Happened event)) (Inside v told) (n + 1) (after ++ more)
 event_tells nodes v told n begun rest more after event a some begins =
     line_tells nodes (Inside v told) n (begun ++ (rest ++ more)) a.line (after ++ more) (Happened event) (rw begins (first_line rest more a.line after a.lines)) (event_says v told rest after event a some)
 
 -- a line that is at fault
-pub line_is_wrong : (nodes : List NodeJournal) (place : Place) (n : ℕ) (text bytes after : Text) (kind : TextKind) → lines_of text ≡ bytes ∷ lines_of after → Err kind ≡ line_in place bytes
+pub line_is_wrong : (nodes : List ReadNode) (place : Place) (n : ℕ) (text bytes after : Text) (kind : TextKind) → lines_of text ≡ bytes ∷ lines_of after → Err kind ≡ line_in place bytes
     → lines_tell nodes place n text ≡ Err (n, kind)
 unfolding lines_tell
 line_is_wrong nodes place n text bytes after kind texts says = rw (line_fails n place (lines_of text) bytes after kind texts says) refl
 
 -- all has come, and the journals are at their end or not
-pub end_tells : (nodes : List NodeJournal) (place : Place) (n : ℕ) (begun : Text) → lines_of begun ≡ begun ∷ [] → None ≡ fault_at (fault_after begun) place
+pub end_tells : (nodes : List ReadNode) (place : Place) (n : ℕ) (begun : Text) → lines_of begun ≡ begun ∷ [] → None ≡ fault_at (fault_after begun) place
     → lines_tell nodes place n (begun ++ []) ≡ Ok (journals_in nodes)
 unfolding lines_tell
 end_tells nodes place n begun one none = rw (append-nil begun, line_ends n place (lines_of begun) begun one, ends_none n place (fault_after begun) none) refl
 
-pub end_is_wrong : (nodes : List NodeJournal) (place : Place) (n : ℕ) (begun : Text) (kind : TextKind) → lines_of begun ≡ begun ∷ [] → Some kind ≡ fault_at (fault_after begun) place
+pub end_is_wrong : (nodes : List ReadNode) (place : Place) (n : ℕ) (begun : Text) (kind : TextKind) → lines_of begun ≡ begun ∷ [] → Some kind ≡ fault_at (fault_after begun) place
     → lines_tell nodes place n (begun ++ []) ≡ Err (n, kind)
 unfolding lines_tell
 end_is_wrong nodes place n begun kind one some = rw (append-nil begun, line_ends n place (lines_of begun) begun one, ends_some n place (fault_after begun) kind some) refl

@@ -9,17 +9,17 @@ use Rattle.thp_script.specs.Prelude.{max_counted}
 use Rattle.thp_journal_reader.specs.declared.follower.FollowedNodes.{FollowedNodes}
 use Rattle.thp_journal_reader.specs.declared.follower.Follower.{Follower}
 use Rattle.thp_journal_reader.specs.declared.long_check.Illegal.{Illegal}
-use Rattle.thp_journal_reader.specs.declared.journals.NodeJournal.{NodeJournal}
+use Rattle.thp_journal_reader.specs.declared.journals.ReadNode.{ReadNode}
 use Rattle.thp_journal_reader.specs.declared.line.Line.{Line}
 use Rattle.thp_journal_reader.specs.Answers.{IsLegalNode, ReportsFirst, IsLegalFront}
 use Rattle.thp_journal_reader.specs.Reading.{with_line, IsNodeBefore}
 
 -- the nodes in numbered lines
-unfoldable pub nodes_told : List (ℕ × Line) → List NodeJournal
+unfoldable pub nodes_told : List (ℕ × Line) → List ReadNode
 nodes_told lines = fold (λ nodes (l : ℕ × Line). with_line l.0 nodes l.1) [] lines
 
 -- the node's shape and its events
-abbrev pub replay_of : NodeJournal → Replayed
+abbrev pub replay_of : ReadNode → Replayed
 replay_of node = record { shape = node.shape; history = node.events }
 
 -- the first illegal event remains the first
@@ -31,7 +31,7 @@ abbrev pub has_stopped : Bool → Option Illegal → Bool
 has_stopped follows_all illegal = is_some illegal && not follows_all
 
 -- this is kept of the node: of its legal events, all or those before its first illegal event, and of that event
-pub record IsKept {K : Type 0} (keeps : Shape → History → Option Illegal → K → Type 0) (node : NodeJournal) (kept : K) : Type 0 where
+pub record IsKept {K : Type 0} (keeps : Shape → History → Option Illegal → K → Type 0) (node : ReadNode) (kept : K) : Type 0 where
   pub front : History
   pub illegal : Option Illegal
   pub legal : IsLegalFront node front
@@ -39,13 +39,13 @@ pub record IsKept {K : Type 0} (keeps : Shape → History → Option Illegal →
   pub kept_is : keeps node.shape front illegal kept
 
 -- the same for each node, in order
-abbrev pub AreKept : {K : Type 0} → (Shape → History → Option Illegal → K → Type 0) → List NodeJournal → List K → Type 0
+abbrev pub AreKept : {K : Type 0} → (Shape → History → Option Illegal → K → Type 0) → List ReadNode → List K → Type 0
 AreKept keeps = AllZip (IsKept keeps)
 
 -- the last node is the current one: the replay is of its events, which are legal, and the next of them is on this line
-pub record EndsAt {K : Type 0} (keeps : Shape → History → Option Illegal → K → Type 0) (nodes : List NodeJournal) (replay : Replayed) (next_line : ℕ) (kept : List K) : Type 0 where
-  pub before : List NodeJournal
-  pub last : NodeJournal
+pub record EndsAt {K : Type 0} (keeps : Shape → History → Option Illegal → K → Type 0) (nodes : List ReadNode) (replay : Replayed) (next_line : ℕ) (kept : List K) : Type 0 where
+  pub before : List ReadNode
+  pub last : ReadNode
   pub nodes_are : nodes ≡ before ++ last ∷ []
   pub replay_is : replay ≡ replay_of last
   pub legal : IsLegalNode last
@@ -53,31 +53,31 @@ pub record EndsAt {K : Type 0} (keeps : Shape → History → Option Illegal →
   pub kept_are : AreKept keeps before kept
 
 -- the last node, if there is one, has an illegal event
-abbrev pub LastIsIllegal : List NodeJournal → Type 0
+abbrev pub LastIsIllegal : List ReadNode → Type 0
 LastIsIllegal [] = ⊤
 LastIsIllegal (node ∷ []) = (place : ℕ) × IsFirstMisfit node.shape node.events place
 LastIsIllegal (node ∷ next ∷ nodes) = LastIsIllegal (next ∷ nodes)
 
 -- no node is at hand: the last one has an illegal event, or the nodes are not followed
-abbrev pub HasNone : {K : Type 0} → (Shape → History → Option Illegal → K → Type 0) → Bool → List NodeJournal → Option Illegal → List K → Type 0
+abbrev pub HasNone : {K : Type 0} → (Shape → History → Option Illegal → K → Type 0) → Bool → List ReadNode → Option Illegal → List K → Type 0
 HasNone keeps follows_all nodes illegal kept = (AreKept keeps nodes kept × LastIsIllegal nodes) ⊎ (has_stopped follows_all illegal ≡ true)
 
 -- the kept data agrees with the nodes
-abbrev pub FollowsBy : {F K : Type 0} → (F → Replayed) → (Shape → History → Option Illegal → K → Type 0) → Bool → List NodeJournal → Option F → ℕ → Option Illegal → List K → Type 0
+abbrev pub FollowsBy : {F K : Type 0} → (F → Replayed) → (Shape → History → Option Illegal → K → Type 0) → Bool → List ReadNode → Option F → ℕ → Option Illegal → List K → Type 0
 FollowsBy replayed keeps follows_all nodes (Some node) next_line illegal kept = EndsAt keeps nodes (replayed node) next_line kept
 FollowsBy replayed keeps follows_all nodes None next_line illegal kept = HasNone keeps follows_all nodes illegal kept
 
 -- what the follower knows of the nodes so far is right
-pub record Follows {F K : Type 0} (replayed : F → Replayed) (keeps : Shape → History → Option Illegal → K → Type 0) (follows_all : Bool) (nodes : List NodeJournal) (follower : Follower F K) : Type 0 where
+pub record Follows {F K : Type 0} (replayed : F → Replayed) (keeps : Shape → History → Option Illegal → K → Type 0) (follows_all : Bool) (nodes : List ReadNode) (follower : Follower F K) : Type 0 where
   pub first : ReportsFirst nodes follower.illegal
   pub known : FollowsBy replayed keeps follows_all nodes follower.at_hand follower.next_line follower.illegal follower.kept.items
 
 -- the same, this being the replay of the current node
-abbrev pub FollowsWith : {F K : Type 0} → (Shape → History → Option Illegal → K → Type 0) → List NodeJournal → Replayed → Follower F K → Type 0
+abbrev pub FollowsWith : {F K : Type 0} → (Shape → History → Option Illegal → K → Type 0) → List ReadNode → Replayed → Follower F K → Type 0
 FollowsWith keeps nodes replay follower = ReportsFirst nodes follower.illegal × EndsAt keeps nodes replay follower.next_line follower.kept.items
 
 -- the last node has ended, too: there is kept data of each, unless the nodes are not followed
-abbrev pub HasEnded : {K : Type 0} → (Shape → History → Option Illegal → K → Type 0) → Bool → List NodeJournal → Option Illegal → List K → Type 0
+abbrev pub HasEnded : {K : Type 0} → (Shape → History → Option Illegal → K → Type 0) → Bool → List ReadNode → Option Illegal → List K → Type 0
 HasEnded keeps follows_all nodes illegal kept = ReportsFirst nodes illegal × (AreKept keeps nodes kept ⊎ (has_stopped follows_all illegal ≡ true))
 
 -- the current node was kept up to this illegal event, with this left of it
@@ -99,7 +99,7 @@ abbrev pub illegal_so_far : {F K : Type 0} → FollowedNodes F K → Option Ille
 illegal_so_far followed = followed.follower.illegal
 
 -- what is known of these nodes is right
-abbrev pub KnowsNodes : {F K : Type 0} → (F → Replayed) → (Shape → History → Option Illegal → K → Type 0) → Bool → List NodeJournal → FollowedNodes F K → Type 0
+abbrev pub KnowsNodes : {F K : Type 0} → (F → Replayed) → (Shape → History → Option Illegal → K → Type 0) → Bool → List ReadNode → FollowedNodes F K → Type 0
 KnowsNodes replayed keeps follows_all nodes followed = Follows replayed keeps follows_all nodes followed.follower
 
 -- what is known is right for the nodes in the lines, which are before the line of this number

@@ -5,8 +5,8 @@ use Rattle.thp_history.specs.Prelude.{with_least_blocks, History, IsShape}
 use Rattle.thp_script.specs.declared.fault.TextKind.{TextKind}
 use Rattle.thp_script.specs.declared.fault.TextKind.TheVariants.{TooLong, Cut}
 use Rattle.thp_script.specs.Prelude.{max_input, fault_after, ◌>>=◌, Fault, on_line, Text, lines_of}
-use Rattle.thp_journal_reader.specs.declared.journals.Journals.{Journals}
-use Rattle.thp_journal_reader.specs.declared.journals.NodeJournal.{NodeJournal}
+use Rattle.thp_journal_reader.specs.declared.journals.ReadJournals.{ReadJournals}
+use Rattle.thp_journal_reader.specs.declared.journals.ReadNode.{ReadNode}
 use Rattle.thp_journal_reader.specs.declared.line.Line.{Line}
 use Rattle.thp_journal_reader.specs.declared.line.Line.TheVariants.{Node, Happened}
 use Rattle.thp_journal_reader.specs.declared.line.Place.{Place}
@@ -39,34 +39,34 @@ events_of (Node number shape ∷ lines) = []
 events_of (_ ∷ lines) = events_of lines
 
 -- a node whose events begin on this line; each new page has the least block that holds no live page
-abbrev pub node_journal : ℕ → Shape → History → NodeJournal
+abbrev pub node_journal : ℕ → Shape → History → ReadNode
 node_journal first_line shape events = record { shape = shape; first_line = first_line; events = with_least_blocks shape events }
 
 -- the nodes of the lines from number `number` on
-abbrev pub nodes_of : ℕ → List Line → List NodeJournal
+abbrev pub nodes_of : ℕ → List Line → List ReadNode
 nodes_of number [] = []
 nodes_of number (Node n shape ∷ lines) = node_journal (number + 1) shape (events_of lines) ∷ nodes_of (number + 1) lines
 nodes_of number (_ ∷ lines) = nodes_of (number + 1) lines
 
 -- the journals in the lines
-unfoldable pub journals_with : List Line → Journals
+unfoldable pub journals_with : List Line → ReadJournals
 journals_with lines = record { nodes = nodes_of 1 lines }
 
 -- The journals in a text of at most so many bytes, or its first error.
-unfoldable pub journals_within : ℕ → Text → Result Journals Fault
+unfoldable pub journals_within : ℕ → Text → Result ReadJournals Fault
 journals_within most text =
     if nat_lt most (length text) then Err (0, TooLong)
     else (lines_from 1 Start (lines_of text) >>= λ lines. Ok (journals_with lines))
 
 -- The journals in an input, or its first error.
-abbrev pub journals_of : Text → Result Journals Fault
+abbrev pub journals_of : Text → Result ReadJournals Fault
 journals_of = journals_within max_input
 
 -- a node can have this shape, and its lines have numbers below 2^32
-pub record IsNodeJournal (node : NodeJournal) : Type 0 where
+pub record IsNodeJournal (node : ReadNode) : Type 0 where
   pub shape : IsShape node.shape
   pub lines : node.first_line + length node.events ≤ max_input + 1
 
 -- the same for each node
-abbrev pub AreJournals : Journals → Type 0
+abbrev pub AreJournals : ReadJournals → Type 0
 AreJournals journals = All IsNodeJournal journals.nodes

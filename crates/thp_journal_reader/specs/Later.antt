@@ -6,15 +6,15 @@ use Rattle.thp_history.specs.Prelude.{History}
 use Rattle.thp_check.specs.Prelude.{Replayed}
 use Rattle.thp_journal_reader.specs.declared.follower.FollowedNodes.{FollowedNodes}
 use Rattle.thp_journal_reader.specs.declared.long_check.Illegal.{Illegal}
-use Rattle.thp_journal_reader.specs.declared.journals.NodeJournal.{NodeJournal}
+use Rattle.thp_journal_reader.specs.declared.journals.ReadNode.{ReadNode}
 use Rattle.thp_journal_reader.specs.declared.journals.Nodes.{Nodes}
 use Rattle.thp_journal_reader.specs.Following.{nodes_told, FollowsLines}
 use Rattle.thp_journal_reader.specs.Reading.{nodes_in, IsNodeBefore, IsReading}
 
-node_later : (number : ℕ) (node : NodeJournal) → IsNodeBefore number node → IsNodeBefore (number + 1) node
+node_later : (number : ℕ) (node : ReadNode) → IsNodeBefore number node → IsNodeBefore (number + 1) node
 node_later number node before = record { shape = before.shape; lines = le_trans before.lines (le-add_right number 1) }
 
-each_later : (number : ℕ) (nodes : List NodeJournal) → All (IsNodeBefore number) nodes → All (IsNodeBefore (number + 1)) nodes
+each_later : (number : ℕ) (nodes : List ReadNode) → All (IsNodeBefore number) nodes → All (IsNodeBefore (number + 1)) nodes
 each_later number nodes each = λ k d inside. node_later number _ (each k d inside)
 
 pub reads_later : (number : ℕ) (nodes : Option Nodes) → IsReading number nodes → IsReading (number + 1) nodes

@@ -31,8 +31,8 @@ pub use Rattle.thp_journal_reader.specs.declared.event_line.PageWord.{PageWord}
 pub use Rattle.thp_journal_reader.specs.declared.event_line.RangeWord.{RangeWord}
 pub use Rattle.thp_journal_reader.specs.declared.follower.FollowedNodes.{FollowedNodes}
 pub use Rattle.thp_journal_reader.specs.declared.follower.Follower.{Follower}
-pub use Rattle.thp_journal_reader.specs.declared.journals.Journals.{Journals}
-pub use Rattle.thp_journal_reader.specs.declared.journals.NodeJournal.{NodeJournal}
+pub use Rattle.thp_journal_reader.specs.declared.journals.ReadJournals.{ReadJournals}
+pub use Rattle.thp_journal_reader.specs.declared.journals.ReadNode.{ReadNode}
 pub use Rattle.thp_journal_reader.specs.declared.line.Line.{Line}
 pub use Rattle.thp_journal_reader.specs.declared.line.Line.TheVariants.{End, Happened, Head, Node}
 pub use Rattle.thp_journal_reader.specs.declared.line.Place.{Place}

@@ -5,7 +5,7 @@ use Rattle.thp_history.specs.declared.shape.Shape.{Shape}
 use Rattle.thp_history.specs.Prelude.{event_with, least_free, IsShape}
 use Rattle.thp_script.specs.declared.fault.TextKind.{TextKind}
 use Rattle.thp_script.specs.declared.fault.TextKind.TheVariants.{Cut}
-use Rattle.thp_journal_reader.specs.declared.journals.NodeJournal.{NodeJournal}
+use Rattle.thp_journal_reader.specs.declared.journals.ReadNode.{ReadNode}
 use Rattle.thp_journal_reader.specs.declared.line.Line.{Line}
 use Rattle.thp_journal_reader.specs.declared.line.Line.TheVariants.{Node, Happened}
 use Rattle.thp_journal_reader.specs.declared.line.Place.{Place}
@@ -19,11 +19,11 @@ pub record GoesAlong (node : OpenNode) : Type 0 where
   pub history_is : node.blocks.history ≡ node.journal.events
 
 -- the journal of a node before its first event
-abbrev pub began : ℕ → Shape → NodeJournal
+abbrev pub began : ℕ → Shape → ReadNode
 began first_line shape = record { shape = shape; first_line = first_line; events = [] }
 
 -- the journal with one more event, an allocation in the least free block
-abbrev pub with_event : Event → NodeJournal → NodeJournal
+abbrev pub with_event : Event → ReadNode → ReadNode
 with_event event node = record {
   shape = node.shape;
   first_line = node.first_line;
@@ -31,24 +31,24 @@ with_event event node = record {
 }
 
 -- the nodes with the last of them changed, if there is one
-abbrev pub on_last : (NodeJournal → NodeJournal) → List NodeJournal → List NodeJournal
+abbrev pub on_last : (ReadNode → ReadNode) → List ReadNode → List ReadNode
 on_last f [] = []
 on_last f (node ∷ []) = f node ∷ []
 on_last f (node ∷ next ∷ nodes) = node ∷ on_last f (next ∷ nodes)
 
 -- the nodes after one more line, which has this number
-abbrev pub with_line : ℕ → List NodeJournal → Line → List NodeJournal
+abbrev pub with_line : ℕ → List ReadNode → Line → List ReadNode
 with_line number nodes (Node n shape) = nodes ++ began (number + 1) shape ∷ []
 with_line number nodes (Happened event) = on_last (with_event event) nodes
 with_line number nodes _ = nodes
 
 -- the nodes read so far
-abbrev pub nodes_in : Option Nodes → List NodeJournal
+abbrev pub nodes_in : Option Nodes → List ReadNode
 nodes_in None = []
 nodes_in (Some nodes) = nodes.closed ++ nodes.last.journal ∷ []
 
 -- a node of a valid shape, whose lines are before this one
-pub record IsNodeBefore (number : ℕ) (node : NodeJournal) : Type 0 where
+pub record IsNodeBefore (number : ℕ) (node : ReadNode) : Type 0 where
   pub shape : IsShape node.shape
   pub lines : node.first_line + length node.events ≤ number
 

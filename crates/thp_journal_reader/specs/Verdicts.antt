@@ -1,7 +1,7 @@
 -- The verdict on a journal.
 use Rattle.std.specs.Prelude.{◌≡◌, ◌++◌, ℕ, Bool, true, false, All, List, [], ◌∷◌, Option, Some, None, Ok, codes, decimal}
 use Rattle.thp_script.specs.Prelude.{max_input}
-use Rattle.thp_journal_reader.specs.declared.journals.Journals.{Journals}
+use Rattle.thp_journal_reader.specs.declared.journals.ReadJournals.{ReadJournals}
 use Rattle.thp_journal_reader.specs.Answers.{CanBeLegal, ReportsIllegal}
 use Rattle.thp_journal_reader.specs.Journals.{journals_within}
 
@@ -17,7 +17,7 @@ is_legal (Some line) = false
 
 -- the text states whether a journal of at most so many bytes is legal
 pub record IsVerdictWithin (most : ℕ) (input : List ℕ) (legal : Bool) (text : List ℕ) : Type 0 where
-  pub journals : Journals
+  pub journals : ReadJournals
   pub spelled : journals_within most input ≡ Ok journals
   pub illegal : Option ℕ
   pub told : ReportsIllegal journals.nodes illegal

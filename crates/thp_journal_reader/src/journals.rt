@@ -14,7 +14,7 @@ use thp_script::{ReadFault, Sequence, TextInParts};
 
 /// The journal of a node, read from a text.
 #[derive(Debug, Drop)]
-pub struct NodeJournal {
+pub struct ReadNode {
     /// The node's size.
     pub shape: Shape,
     /// The line of the first event, counted from 1; the event at index i is on line `first_line + i`.
@@ -25,16 +25,16 @@ pub struct NodeJournal {
 
 /// The journals of a text's nodes.
 #[derive(Debug, Drop)]
-pub struct Journals {
+pub struct ReadJournals {
     /// The nodes, in order of their numbers.
-    pub nodes: Sequence<NodeJournal>,
+    pub nodes: Sequence<ReadNode>,
 }
 
 /// Parses journals, or returns the first error of the text.
 ///
 /// The text is read once, from its start to its first error. Journals contain no blocks: each allocation gets the least block
 /// that holds no live page.
-pub fn read_journal(alloc: Global, text: &[u8]) -> Result<Journals, ReadFault>
+pub fn read_journal(alloc: Global, text: &[u8]) -> Result<ReadJournals, ReadFault>
     ensures journals { IfOk result (λ journals. journals_of text.now ≡ Ok journals) }
     ensures in_range { IfOk result AreJournals }
     ensures fault { IfErr result (ReportsFault (journals_of text.now)) }
@@ -46,7 +46,7 @@ pub fn read_journal(alloc: Global, text: &[u8]) -> Result<Journals, ReadFault>
             line: fault.line as u32,
             kind: fault.kind,
         }),
-        Ok(nodes) => Ok(Journals {
+        Ok(nodes) => Ok(ReadJournals {
             nodes: close(alloc, nodes)?,
         }),
     }
@@ -55,7 +55,7 @@ pub fn read_journal(alloc: Global, text: &[u8]) -> Result<Journals, ReadFault>
 /// A node whose events are being read, and the blocks of its pages.
 #[derive(Drop)]
 pub(crate) struct OpenNode {
-    journal: NodeJournal,
+    journal: ReadNode,
     blocks: LeastBlocks,
 }
 
@@ -75,15 +75,12 @@ impl OpenNode {
 /// The nodes read so far, at least one. Events are added to the last of them.
 #[derive(Drop)]
 pub(crate) struct Nodes {
-    closed: Sequence<NodeJournal>,
+    closed: Sequence<ReadNode>,
     last: OpenNode,
 }
 
 /// Closes the last node, and returns the nodes.
-pub(crate) fn close(
-    alloc: Global,
-    nodes: Option<Nodes>,
-) -> Result<Sequence<NodeJournal>, AllocError>
+pub(crate) fn close(alloc: Global, nodes: Option<Nodes>) -> Result<Sequence<ReadNode>, AllocError>
     ensures { IfOk result (λ closed. closed ≡ nodes_in nodes) }
 {
     let Some(nodes) = nodes else {
@@ -107,7 +104,7 @@ fn begin(
     ensures along { OnOk result (IfSome nodes.new (λ n. GoesAlong n.last)) }
 {
     let blocks = LeastBlocks::new(alloc, shape)?;
-    let journal = NodeJournal {
+    let journal = ReadNode {
         shape,
         first_line: number as u32 + 1,
         events: Sequence::new(alloc),

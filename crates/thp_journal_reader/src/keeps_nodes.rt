@@ -1,6 +1,6 @@
 //! What is stored about the nodes in the lines of a journal.
 ghost use Rattle.std.specs.Prelude.{◌≡◌, ◌≤◌, ◌+◌, ℕ, List, OnOk};
-ghost use Rattle.thp_journal_reader.specs.declared.journals.NodeJournal.{NodeJournal};
+ghost use Rattle.thp_journal_reader.specs.declared.journals.ReadNode.{ReadNode};
 ghost use Rattle.thp_journal_reader.specs.LineRanges.{IsInRange};
 ghost use Rattle.thp_journal_reader.specs.Reading.{with_line};
 
@@ -10,7 +10,7 @@ use std::alloc::{AllocError, Global};
 /// The data that is stored about the nodes in the lines of a journal.
 pub trait KeepsNodes: Sized {
     /// The nodes so far.
-    ghost told: { Self → List NodeJournal };
+    ghost told: { Self → List ReadNode };
 
     /// The stored data agrees with the nodes, which are before the line of this number.
     ghost goes_along: { ℕ → Self → Type 0 };

@@ -28,7 +28,7 @@ mod text_reader;
 pub use event_line::{EventWord, PageWord, RangeWord};
 pub use follower::FollowedNodes;
 pub use follows_node::{FollowsNode, Stopped};
-pub use journals::{Journals, NodeJournal, read_journal};
+pub use journals::{ReadJournals, ReadNode, read_journal};
 pub use keeps_nodes::KeepsNodes;
 pub use least_blocks::LeastBlocks;
 pub use line::{Line, Place};

@@ -1,6 +1,6 @@
 //! The check of journals of any length.
 ghost use Rattle.std.specs.Prelude.{◌≡◌, ◌≢◌, ◌≤◌, ◌+◌, ◌++◌, Ok, Err, [], IfOk, IfErr, IfSome, All, None};
-ghost use Rattle.thp_journal_reader.specs.Prelude.{journals_of, journals_within, more_text_read, no_text_read, told_with, verdict_text, CanBeLegal, HasReadText, Journals, ReportsFirst, ReportsIllegal};
+ghost use Rattle.thp_journal_reader.specs.Prelude.{journals_of, journals_within, more_text_read, no_text_read, told_with, verdict_text, CanBeLegal, HasReadText, ReadJournals, ReportsFirst, ReportsIllegal};
 ghost use Rattle.thp_script.specs.Prelude.{max_counted, max_input, nothing_of, ReportsFault, Text};
 ghost use Rattle.thp_script.specs.declared.fault.ReadFault.TheVariants.{OutOfMemory};
 
@@ -78,7 +78,7 @@ impl LongCheck {
     /// node's events are legal. Fails with the first error of the text, even if that is after an illegal event. Allocates no
     /// memory.
     pub fn finish(self) -> Result<Option<Illegal>, TextFault>
-        ensures first { IfOk result (λ illegal. (journals : Journals) × (told_with self [] ≡ Ok journals) × ReportsFirst journals.nodes illegal) }
+        ensures first { IfOk result (λ illegal. (journals : ReadJournals) × (told_with self [] ≡ Ok journals) × ReportsFirst journals.nodes illegal) }
         ensures fault { IfErr result (λ fault. told_with self [] ≡ Err (fault.line, fault.kind)) }
         ensures illegal_line { IfOk result (λ illegal. IfSome illegal (λ i. i.line ≤ self.text.most + 1)) }
         ensures fault_line { IfErr result (λ fault. fault.line ≤ self.text.most + 1) }
@@ -90,7 +90,7 @@ impl LongCheck {
     /// error of the text, even if that is after an illegal event. Allocates no memory.
     pub fn finish_input(self) -> Result<Option<u32>, ReadFault>
         requires { self.text.most ≡ max_input }
-        ensures line { IfOk result (λ line. (journals : Journals) × (told_with self [] ≡ Ok journals) × ReportsIllegal journals.nodes line) }
+        ensures line { IfOk result (λ line. (journals : ReadJournals) × (told_with self [] ≡ Ok journals) × ReportsIllegal journals.nodes line) }
         ensures fault { IfErr result (ReportsFault (told_with self [])) }
         ensures no_memory { IfErr result (λ fault. fault ≢ OutOfMemory) }
     {
@@ -154,8 +154,8 @@ pub fn verdict(illegal: Option<u64>) -> ArrayString<VERDICT>
 /// The events are replayed as they are read, and not stored. The first error of the text takes precedence, even after an illegal
 /// event. Journals contain no blocks: a text is legal exactly if some choice of blocks makes it so.
 pub fn check_text(alloc: Global, text: &[u8]) -> Result<Option<u32>, ReadFault>
-    ensures line { IfOk result (λ line. (journals : Journals) × (journals_of text.now ≡ Ok journals) × ReportsIllegal journals.nodes line) }
-    ensures free_choice { IfOk result (λ line. (journals : Journals) → journals_of text.now ≡ Ok journals → All CanBeLegal journals.nodes → line ≡ None) }
+    ensures line { IfOk result (λ line. (journals : ReadJournals) × (journals_of text.now ≡ Ok journals) × ReportsIllegal journals.nodes line) }
+    ensures free_choice { IfOk result (λ line. (journals : ReadJournals) → journals_of text.now ≡ Ok journals → All CanBeLegal journals.nodes → line ≡ None) }
     ensures fault { IfErr result (ReportsFault (journals_of text.now)) }
 {
     LongCheck::of_input(alloc).read_part(text)?.finish_input()

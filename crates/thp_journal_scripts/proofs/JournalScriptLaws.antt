@@ -8,7 +8,7 @@ use Rattle.thp_history.specs.Prelude.{event_with, least_free, History, IsFirstMi
 use Rattle.thp_history.proofs.ListPlaces.{get_middle, get_push}
 use Rattle.thp_journal_reader.specs.declared.long_check.Illegal.{Illegal}
 use Rattle.thp_journal_scripts.specs.Prelude.{JournalScript, ended_nodes, repeated_of, told_of, AddsLine, IsLegalPart, IsScripting, IsScriptOf, moved_by, nodes_of, out_of_turn_by, taken_of, untaken, BeginsNode, EndedNode, EndsAs, EndsNode, GoesOnWith, IsWriting, NodeScript}
-use Rattle.thp_journal_reader.specs.declared.journals.NodeJournal.{NodeJournal}
+use Rattle.thp_journal_reader.specs.declared.journals.ReadNode.{ReadNode}
 use Rattle.thp_journal_reader.specs.declared.line.Line.{Line}
 use Rattle.thp_journal_reader.specs.declared.line.Line.TheVariants.{Head, Node, Happened, End}
 use Rattle.thp_journal_reader.specs.Prelude.{IsFirstIllegalEvent, ReportsFirst, began, on_last, with_event, with_line}
@@ -22,7 +22,7 @@ some_last : {X : Type 0} (x : X) (xs : List X) → (before : List X) × (last : 
 some_last x [] = ([], x, refl)
 some_last x (y ∷ ys) = let rest = some_last y ys in (x ∷ rest.0, rest.1, ap (λ l. x ∷ l) rest.2)
 
-on_later : (f : NodeJournal → NodeJournal) (before : List NodeJournal) (node next : NodeJournal) (after : List NodeJournal) → on_last f (before ++ node ∷ (next ∷ after)) ≡ before ++ node ∷ on_last f (next ∷ after)
+on_later : (f : ReadNode → ReadNode) (before : List ReadNode) (node next : ReadNode) (after : List ReadNode) → on_last f (before ++ node ∷ (next ∷ after)) ≡ before ++ node ∷ on_last f (next ∷ after)
 on_later f [] node next after = refl
 on_later f (b ∷ []) node next after = refl
 on_later f (b ∷ c ∷ before) node next after = ap (λ ns. b ∷ ns) (on_later f (c ∷ before) node next after)
@@ -30,12 +30,12 @@ on_later f (b ∷ c ∷ before) node next after = ap (λ ns. b ∷ ns) (on_later
 -- ---- the nodes up to the first illegal event
 
 -- lines after the illegal event change nothing
-part_begins : (nodes part : List NodeJournal) (node : NodeJournal) → IsLegalPart nodes part → IsLegalPart (nodes ++ node ∷ []) part
+part_begins : (nodes part : List ReadNode) (node : ReadNode) → IsLegalPart nodes part → IsLegalPart (nodes ++ node ∷ []) part
 part_begins nodes part node is = grind (arith, append_assoc)
 
-part_grows : (nodes part : List NodeJournal) (e : Event) → IsLegalPart nodes part → IsLegalPart (on_last (with_event e) nodes) part
+part_grows : (nodes part : List ReadNode) (e : Event) → IsLegalPart nodes part → IsLegalPart (on_last (with_event e) nodes) part
 part_grows nodes part e is = by_after is.after is.nodes_are where
-  by_after : (after : List NodeJournal) → nodes ≡ is.before ++ is.node ∷ after → IsLegalPart (on_last (with_event e) nodes) part
+  by_after : (after : List ReadNode) → nodes ≡ is.before ++ is.node ∷ after → IsLegalPart (on_last (with_event e) nodes) part
   by_after [] are = record {
     before = is.before;
     node = with_event e is.node;
@@ -57,31 +57,31 @@ part_grows nodes part e is = by_after is.after is.nodes_are where
     part_is = is.part_is;
   }
 
-part_stays : (number : ℕ) (line : Line) (nodes part : List NodeJournal) → IsLegalPart nodes part → IsLegalPart (with_line number nodes line) part
+part_stays : (number : ℕ) (line : Line) (nodes part : List ReadNode) → IsLegalPart nodes part → IsLegalPart (with_line number nodes line) part
 part_stays number x nodes part is = grind (arith, part_begins, part_grows)
 
 -- some node is illegal
-not_all : (nodes part : List NodeJournal) → IsLegalPart nodes part → ReportsFirst nodes None → ⊥
+not_all : (nodes part : List ReadNode) → IsLegalPart nodes part → ReportsFirst nodes None → ⊥
 not_all nodes part is all =
-    let there : slice_get nodes (length is.before) ≡ Some is.node = ap (λ (ns : List NodeJournal). slice_get ns (length is.before)) is.nodes_are ∙ get_middle is.before is.node is.after in
+    let there : slice_get nodes (length is.before) ≡ Some is.node = ap (λ (ns : List ReadNode). slice_get ns (length is.before)) is.nodes_are ∙ get_middle is.before is.node is.after in
     misfit_is_illegal is.node.shape is.node.events is.place is.misfit (all (length is.before) is.node (slice_get_within nodes (length is.before) is.node there) there)
 
 -- an illegal event behind legal ones is the last
-module _ (nodes before : List NodeJournal) (last : NodeJournal) (are : nodes ≡ before ++ last ∷ []) (e : Event) (all : ReportsFirst nodes None) where
+module _ (nodes before : List ReadNode) (last : ReadNode) (are : nodes ≡ before ++ last ∷ []) (e : Event) (all : ReportsFirst nodes None) where
   last_stands : slice_get nodes (length before) ≡ Some last
-  last_stands = ap (λ (ns : List NodeJournal). slice_get ns (length before)) are ∙ get_middle before last []
+  last_stands = ap (λ (ns : List ReadNode). slice_get ns (length before)) are ∙ get_middle before last []
 
   last_events : (k : ℕ) → IsFirstMisfit last.shape (with_event e last).events k → take k (with_event e last).events ≡ last.events
   last_events k misfit = grind (arith, slice_get_within, last_stands, get_push, take-append-le, take_at)
 
-  last_is_illegal : (illegal : Illegal) → IsFirstIllegalEvent (on_last (with_event e) nodes) illegal → (part : List NodeJournal) × IsLegalPart (on_last (with_event e) nodes) part × (map told_of part ≡ map told_of nodes)
+  last_is_illegal : (illegal : Illegal) → IsFirstIllegalEvent (on_last (with_event e) nodes) illegal → (part : List ReadNode) × IsLegalPart (on_last (with_event e) nodes) part × (map told_of part ≡ map told_of nodes)
   last_is_illegal illegal i =
       elim (stands nodes before last are e i.line.place i.line.node i.line.here) [
         | inl w ↦ absurd (misfit_is_illegal i.line.node.shape i.line.node.events i.line.first.place i.line.first.misfit (before_legal nodes before last are e all i.line.place i.line.node w.1))
         | inr w ↦
             let k : ℕ = i.line.first.place in
-            let misfit : IsFirstMisfit last.shape (with_event e last).events k = subst (λ (n : NodeJournal). IsFirstMisfit n.shape n.events k) w.1 i.line.first.misfit in
-            let end : NodeJournal = record (with_event e last) { events = take k (with_event e last).events } in (
+            let misfit : IsFirstMisfit last.shape (with_event e last).events k = subst (λ (n : ReadNode). IsFirstMisfit n.shape n.events k) w.1 i.line.first.misfit in
+            let end : ReadNode = record (with_event e last) { events = take k (with_event e last).events } in (
               before ++ end ∷ [],
               record {
                 before = before;
@@ -98,12 +98,12 @@ module _ (nodes before : List NodeJournal) (last : NodeJournal) (are : nodes ≡
       ]
 
 -- nodes without an illegal event have none
-none_illegal : (nodes : List NodeJournal) → ReportsFirst nodes None → (illegal : Illegal) → IsFirstIllegalEvent nodes illegal → ⊥
+none_illegal : (nodes : List ReadNode) → ReportsFirst nodes None → (illegal : Illegal) → IsFirstIllegalEvent nodes illegal → ⊥
 none_illegal nodes all illegal i = grind (arith, misfit_is_illegal, slice_get_within)
 
 -- the first illegal event is on this line
-found_now : (number : ℕ) (line : Line) (nodes : List NodeJournal) → ReportsFirst nodes None → (illegal : Illegal) → IsFirstIllegalEvent (with_line number nodes line) illegal →
-    (part : List NodeJournal) × IsLegalPart (with_line number nodes line) part × (map told_of part ≡ map told_of nodes)
+found_now : (number : ℕ) (line : Line) (nodes : List ReadNode) → ReportsFirst nodes None → (illegal : Illegal) → IsFirstIllegalEvent (with_line number nodes line) illegal →
+    (part : List ReadNode) × IsLegalPart (with_line number nodes line) part × (map told_of part ≡ map told_of nodes)
 found_now number (Head version) nodes all illegal i = absurd (none_illegal nodes all illegal i)
 found_now number (Node n shape) nodes all illegal i = absurd (none_illegal (nodes ++ began (number + 1) shape ∷ []) (first_begins nodes None (number + 1) shape all) illegal i)
 found_now number (Happened e) [] all illegal i = absurd (none_illegal [] first_none illegal i)
@@ -117,7 +117,7 @@ same_ended : (ended : List EndedNode) (begun : Option NodeScript) (after : List 
 same_ended ended x after is = grind (arith, map-append)
 
 -- it ends at the illegal event, or has
-pub stops : (number : ℕ) (line : Line) (nodes : List NodeJournal) (old new : JournalScript) (was : Option Illegal) (illegal : Illegal) → ReportsFirst nodes was → ReportsFirst (with_line number nodes line) (Some illegal) → EndsNode old new →
+pub stops : (number : ℕ) (line : Line) (nodes : List ReadNode) (old new : JournalScript) (was : Option Illegal) (illegal : Illegal) → ReportsFirst nodes was → ReportsFirst (with_line number nodes line) (Some illegal) → EndsNode old new →
     IsScripting nodes was old → IsScripting (with_line number nodes line) (Some illegal) new
 stops number line nodes old new None illegal all first ends s =
     let found = found_now number line nodes all illegal first in
@@ -161,7 +161,7 @@ not_empty : {X : Type 0} (xs : List X) (x : X) → [] ≡ xs ++ x ∷ [] → ⊥
 not_empty [] x is = cc
 not_empty (y ∷ xs) x is = cc
 
-module _ (number : ℕ) (nodes : List NodeJournal) (old new : JournalScript) (s : IsScripting nodes None old) where
+module _ (number : ℕ) (nodes : List ReadNode) (old new : JournalScript) (s : IsScripting nodes None old) where
   node_begins : (n : ℕ) (shape : Shape) → BeginsNode shape old new → IsScripting (with_line number nodes (Node n shape)) None new
   node_begins n shape begins =
       let e = begins s.ended s.begun s.writing in
@@ -179,7 +179,7 @@ module _ (number : ℕ) (nodes : List NodeJournal) (old new : JournalScript) (s 
 
   -- an event of the last node
   module _ (e : Event) (adds : (block : ℕ) → GoesOnWith (event_with block e) old new) where
-    of_last : (before : List NodeJournal) (last : NodeJournal) → nodes ≡ before ++ last ∷ [] → (n : NodeScript) → s.begun ≡ Some n → IsScripting (on_last (with_event e) nodes) None new
+    of_last : (before : List ReadNode) (last : ReadNode) → nodes ≡ before ++ last ∷ [] → (n : NodeScript) → s.begun ≡ Some n → IsScripting (on_last (with_event e) nodes) None new
     of_last before last are n begun =
         let block : ℕ = least_free last.shape last.events in
         let a = adds block s.ended (Some n) (subst (λ b. IsWriting s.ended b old) begun s.writing) in
@@ -210,7 +210,7 @@ module _ (number : ℕ) (nodes : List NodeJournal) (old new : JournalScript) (s 
           writing = subst (λ b. IsWriting s.ended b new) a.1 a.2;
         }
 
-    by_begun : (begun : Option NodeScript) → s.begun ≡ begun → (ns : List NodeJournal) → nodes ≡ ns → IsScripting (on_last (with_event e) nodes) None new
+    by_begun : (begun : Option NodeScript) → s.begun ≡ begun → (ns : List ReadNode) → nodes ≡ ns → IsScripting (on_last (with_event e) nodes) None new
     by_begun None is [] are = no_node are is (s.goes_on refl is)
     by_begun None is (x ∷ xs) are =
         let told : map told_of (x ∷ xs) ≡ [] = ap (map told_of) (sym are ∙ sym s.legal) ∙ s.same ∙ ap₂ (λ b es. map repeated_of (nodes_of es b)) is (s.goes_on refl is) in
@@ -223,7 +223,7 @@ module _ (number : ℕ) (nodes : List NodeJournal) (old new : JournalScript) (s 
     goes_on = by_begun s.begun refl nodes refl
 
 -- it goes on with a line after which all is legal
-pub grows : (number : ℕ) (line : Line) (nodes : List NodeJournal) (old new : JournalScript) (was : Option Illegal) → ReportsFirst (with_line number nodes line) None → AddsLine line old new → IsScripting nodes was old →
+pub grows : (number : ℕ) (line : Line) (nodes : List ReadNode) (old new : JournalScript) (was : Option Illegal) → ReportsFirst (with_line number nodes line) None → AddsLine line old new → IsScripting nodes was old →
     IsScripting (with_line number nodes line) None new
 grows number line nodes old new (Some before) all adds s = absurd (not_all (with_line number nodes line) s.part (part_stays number line nodes s.part s.legal) all)
 grows number (Head version) nodes old new None all same s = subst (IsScripting nodes None) (sym same) s
@@ -232,7 +232,7 @@ grows number (Happened e) nodes old new None all adds s = goes_on number nodes o
 grows number End nodes old new None all same s = subst (IsScripting nodes None) (sym same) s
 
 -- the same, of nodes that lines tell
-module _ (number : ℕ) (line : Line) (nodes more : List NodeJournal) (told : more ≡ with_line number nodes line) (old new : JournalScript) (was now : Option Illegal) (first : ReportsFirst more now) (s : IsScripting nodes was old) where
+module _ (number : ℕ) (line : Line) (nodes more : List ReadNode) (told : more ≡ with_line number nodes line) (old new : JournalScript) (was now : Option Illegal) (first : ReportsFirst more now) (s : IsScripting nodes was old) where
   pub stops_now : ReportsFirst nodes was → (is_some now ≡ true) → EndsNode old new → IsScripting more now new
   stops_now before some ends = grind (arith, is_some, stops)
 
@@ -243,7 +243,7 @@ pub on_ok_more : {A E P Q : Type 0} (r : Result A E) → (P → Q) → OnOk r P 
 on_ok_more x f p = grind arith
 
 -- its end
-pub script_ends : (nodes : List NodeJournal) (illegal : Option Illegal) (old new : JournalScript) → EndsNode old new → IsScripting nodes illegal old → IsScriptOf nodes illegal (taken_of new ++ untaken new) (moved_by new) (out_of_turn_by new)
+pub script_ends : (nodes : List ReadNode) (illegal : Option Illegal) (old new : JournalScript) → EndsNode old new → IsScripting nodes illegal old → IsScriptOf nodes illegal (taken_of new ++ untaken new) (moved_by new) (out_of_turn_by new)
 script_ends nodes illegal old new ends s = grind (arith, same_ended)
 
 -- before the first line

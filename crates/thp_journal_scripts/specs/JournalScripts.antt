@@ -4,7 +4,7 @@ use Rattle.thp_history.specs.declared.shape.Shape.{Shape}
 use Rattle.thp_history.specs.Prelude.{event_with, History, IsFirstMisfit}
 use Rattle.thp_journal_reader.specs.declared.long_check.Illegal.{Illegal}
 use Rattle.thp_journal_scripts.specs.declared.journal_script.JournalScript.{JournalScript}
-use Rattle.thp_journal_reader.specs.declared.journals.NodeJournal.{NodeJournal}
+use Rattle.thp_journal_reader.specs.declared.journals.ReadNode.{ReadNode}
 use Rattle.thp_journal_reader.specs.declared.line.Line.{Line}
 use Rattle.thp_journal_reader.specs.declared.line.Line.TheVariants.{Node, Happened}
 use Rattle.thp_journal_scripts.specs.declared.folding.Moved.{Moved}
@@ -14,10 +14,10 @@ use Rattle.thp_journal_scripts.specs.Moving.{counted}
 use Rattle.thp_journal_scripts.specs.NodeScripts.{moved_in, nodes_of, nodes_text, out_of_turn_in, BeginsNode, EndedNode, GoesOnWith, IsEnded, IsWriting, NodeScript}
 
 -- the nodes up to the first illegal event, the last of them with the events before it
-pub record IsLegalPart (nodes part : List NodeJournal) : Type 0 where
-  pub before : List NodeJournal
-  pub node : NodeJournal
-  pub after : List NodeJournal
+pub record IsLegalPart (nodes part : List ReadNode) : Type 0 where
+  pub before : List ReadNode
+  pub node : ReadNode
+  pub after : List ReadNode
   pub nodes_are : nodes ≡ before ++ node ∷ after
   pub legal : AreLegalBefore (length before) before
   pub place : ℕ
@@ -25,12 +25,12 @@ pub record IsLegalPart (nodes part : List NodeJournal) : Type 0 where
   pub part_is : part ≡ before ++ record node { events = take place node.events } ∷ []
 
 -- the same, or all nodes if none has an illegal event
-abbrev pub LegalPart : List NodeJournal → Option Illegal → List NodeJournal → Type 0
+abbrev pub LegalPart : List ReadNode → Option Illegal → List ReadNode → Type 0
 LegalPart nodes None part = part ≡ nodes
 LegalPart nodes (Some illegal) part = IsLegalPart nodes part
 
 -- a node's shape and events
-abbrev pub told_of : NodeJournal → Shape × History
+abbrev pub told_of : ReadNode → Shape × History
 told_of n = (n.shape, n.events)
 
 -- those of a node's script
@@ -41,8 +41,8 @@ abbrev pub ended_nodes : List EndedNode → List NodeScript
 ended_nodes ended = map (λ (e : EndedNode). e.node) ended
 
 -- The text is the script of the nodes up to the first illegal event. It moves this much, and so many tries are out of turn.
-pub record IsScriptOf (nodes : List NodeJournal) (illegal : Option Illegal) (text : List ℕ) (moved : Moved) (turns : ℕ) : Type 0 where
-  pub part : List NodeJournal
+pub record IsScriptOf (nodes : List ReadNode) (illegal : Option Illegal) (text : List ℕ) (moved : Moved) (turns : ℕ) : Type 0 where
+  pub part : List ReadNode
   pub legal : LegalPart nodes illegal part
   pub scripts : List EndedNode
   pub each : All IsEnded scripts
@@ -52,15 +52,15 @@ pub record IsScriptOf (nodes : List NodeJournal) (illegal : Option Illegal) (tex
   pub out_of_turn_is : turns ≡ counted (out_of_turn_in (ended_nodes scripts))
 
 -- the first illegal event of the nodes and their script, of which this text was taken out before
-pub record AreScripted (nodes : List NodeJournal) (taken : List ℕ) (scripted : Scripted) : Type 0 where
+pub record AreScripted (nodes : List ReadNode) (taken : List ℕ) (scripted : Scripted) : Type 0 where
   pub first : ReportsFirst nodes scripted.illegal
   pub script : IsScriptOf nodes scripted.illegal (taken ++ scripted.text.items) scripted.moved scripted.out_of_turn
 
 -- ---- while nodes are read
 
 -- the script so far is that of the nodes; the last of them has not ended, unless an event is illegal
-pub record IsScripting (nodes : List NodeJournal) (illegal : Option Illegal) (s : JournalScript) : Type 0 where
-  pub part : List NodeJournal
+pub record IsScripting (nodes : List ReadNode) (illegal : Option Illegal) (s : JournalScript) : Type 0 where
+  pub part : List ReadNode
   pub legal : LegalPart nodes illegal part
   pub ended : List EndedNode
   pub begun : Option NodeScript

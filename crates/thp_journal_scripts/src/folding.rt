@@ -320,7 +320,7 @@ impl Folding {
     }
 
     /// Returns the number of pages of the first flight that waits; `None` if it has not ended.
-    fn next_scan(&self) -> Option<u16> {
+    fn next_scan(&self) -> Option<u32> {
         let first = self.waiting.front()?;
         (!has_flight(&self.pages, first.flight)).then_some(first.taken)
     }
@@ -398,7 +398,7 @@ pub(crate) fn kind_of(what: &What) -> EventKind
         What::Taken { .. } => return EventKind::Take,
         What::Split { .. } | What::Pinned { .. } | What::Used { .. } => return EventKind::Try,
         _ => match what.page_call() {
-            Some((page, call)) => Op::of_page(page.0, call),
+            Some((page, call)) => Op::of_page(page, call),
             None => return EventKind::Put,
         },
     })

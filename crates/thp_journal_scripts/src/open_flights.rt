@@ -38,7 +38,7 @@ pub(crate) fn leave(pages: &mut Vec<FlyingPage>, page: PageId) -> Option<u64>
 #[derive(Clone, Copy)]
 pub(crate) struct WaitingFlight {
     pub(crate) caller: u32,
-    pub(crate) taken: u16,
+    pub(crate) taken: u32,
     // the number of flights that began before this one
     pub(crate) flight: u64,
 }

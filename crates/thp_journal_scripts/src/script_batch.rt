@@ -7,7 +7,7 @@ use std::alloc::AllocError;
 use thp_script::Op;
 
 /// The greatest number of pages that a command takes.
-pub(crate) const MAX_TAKEN: u16 = 128;
+pub(crate) const MAX_TAKEN: u32 = 128;
 
 /// The batch of a script. Nothing is written of a batch whose takes and tries are counted: it can still become one scan.
 #[derive(Clone, Copy)]
@@ -15,11 +15,11 @@ pub(crate) enum ScriptBatch {
     /// No batch.
     Idle,
     /// The caller took pages.
-    Taking { caller: u32, taken: u16 },
+    Taking { caller: u32, taken: u32 },
     /// The caller took pages, and tried some.
-    Trying { caller: u32, taken: u16, tried: u16 },
+    Trying { caller: u32, taken: u32, tried: u32 },
     /// The caller took pages, tried each, and put some back.
-    Scanned { caller: u32, taken: u16 },
+    Scanned { caller: u32, taken: u32 },
     /// The `take` and the tries so far are written.
     Open { caller: u32 },
     /// These are written, and the caller put some pages back.
@@ -129,7 +129,7 @@ impl ScriptBatch {
 }
 
 /// Appends so many tries.
-fn put_tries(ops: &mut Vec<Op>, count: u16) -> Result<(), AllocError>
+fn put_tries(ops: &mut Vec<Op>, count: u32) -> Result<(), AllocError>
     ensures { OnOk result (ops.new.items ≡ ops.old.items ++ replicate count SplitNext) }
 {
     for _try in 0..count {

@@ -2,8 +2,8 @@
 ghost use Rattle.std.specs.Prelude.{◌≡◌, ◌++◌, Ok, Err, [], IfOk, IfErr, ℕ, false, List, OnOk};
 ghost use Rattle.thp_journal_scripts.specs.Prelude.{taken_of, untaken, AddsLine, AreScripted, IsScriptOf, IsScripting};
 ghost use Rattle.thp_journal_reader.specs.Prelude.{follows_later, journals_within, nodes_told, told_with, FollowsLines, KeepsNothing, ReportsLongReadFault};
-ghost use Rattle.thp_journal_reader.specs.declared.journals.Journals.{Journals};
-ghost use Rattle.thp_journal_reader.specs.declared.journals.NodeJournal.{NodeJournal};
+ghost use Rattle.thp_journal_reader.specs.declared.journals.ReadJournals.{ReadJournals};
+ghost use Rattle.thp_journal_reader.specs.declared.journals.ReadNode.{ReadNode};
 ghost use Rattle.thp_script.specs.Prelude.{max_counted, Text};
 
 use crate::folding::Moved;
@@ -78,7 +78,7 @@ impl ScriptCheck {
     /// node's events are legal; and the rest of the script. Fails with the first error of the text, even if that is after an
     /// illegal event, and if memory for the rest of the script can't be allocated.
     pub fn finish(self) -> Result<Scripted, LongReadFault>
-        ensures scripted { IfOk result (λ scripted. (journals : Journals) × (told_with self.read [] ≡ Ok journals) × AreScripted journals.nodes self.taken scripted) }
+        ensures scripted { IfOk result (λ scripted. (journals : ReadJournals) × (told_with self.read [] ≡ Ok journals) × AreScripted journals.nodes self.taken scripted) }
         ensures fault { IfErr result (ReportsLongReadFault (told_with self.read [])) }
     {
         match self.text.finish() {
@@ -127,7 +127,7 @@ impl ScriptedNodes {
     /// Ends the script, after the last line.
     pub(crate) fn finish(self) -> Result<Scripted, AllocError>
         ensures illegal { IfOk result (λ s. s.illegal ≡ self.checked.follower.illegal) }
-        ensures script { IfOk result (λ s. (nodes : List NodeJournal) → IsScripting nodes self.checked.follower.illegal self.script → IsScriptOf nodes s.illegal (taken_of self.script ++ s.text.items) s.moved s.out_of_turn) }
+        ensures script { IfOk result (λ s. (nodes : List ReadNode) → IsScripting nodes self.checked.follower.illegal self.script → IsScriptOf nodes s.illegal (taken_of self.script ++ s.text.items) s.moved s.out_of_turn) }
     {
         let ScriptedNodes {
             checked,

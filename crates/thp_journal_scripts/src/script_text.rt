@@ -14,21 +14,25 @@ pub fn put_command(text: &mut Vec<u8>, command: Command) -> Result<(), AllocErro
     ensures { OnOk result (text.new.items ≡ text.old.items ++ command_line command) }
 {
     let node = command.node;
-    match command.op {
+    match &command.op {
         Op::Alloc => put_node(text, b"alloc ", node),
-        Op::MapWhole { page } => put_page(text, b"mapwhole ", node, page),
-        Op::UnmapWhole { page } => put_page(text, b"unmapwhole ", node, page),
-        Op::Map { first, count, page } => put_range(text, b"map ", node, page, first, count),
-        Op::Unmap { first, count, page } => put_range(text, b"unmap ", node, page, first, count),
-        Op::Write { first, count, page } => put_range(text, b"write ", node, page, first, count),
-        Op::Zero { first, count, page } => put_range(text, b"zero ", node, page, first, count),
-        Op::SplitPmd { page } => put_page(text, b"splitpmd ", node, page),
-        Op::Pin { page } => put_page(text, b"pin ", node, page),
-        Op::Unpin { page } => put_page(text, b"unpin ", node, page),
+        Op::MapWhole { page } => put_page(text, b"mapwhole ", node, page.0),
+        Op::UnmapWhole { page } => put_page(text, b"unmapwhole ", node, page.0),
+        Op::Map { first, count, page } => put_range(text, b"map ", node, page.0, *first, *count),
+        Op::Unmap { first, count, page } => put_range(
+            text, b"unmap ", node, page.0, *first, *count,
+        ),
+        Op::Write { first, count, page } => put_range(
+            text, b"write ", node, page.0, *first, *count,
+        ),
+        Op::Zero { first, count, page } => put_range(text, b"zero ", node, page.0, *first, *count),
+        Op::SplitPmd { page } => put_page(text, b"splitpmd ", node, page.0),
+        Op::Pin { page } => put_page(text, b"pin ", node, page.0),
+        Op::Unpin { page } => put_page(text, b"unpin ", node, page.0),
         Op::Close => put_node(text, b"close ", node),
-        Op::Scan { count } => put_page(text, b"scan ", node, u64::from(count)),
+        Op::Scan { count } => put_page(text, b"scan ", node, u64::from(*count)),
         Op::Count => put_node(text, b"count ", node),
-        Op::Take { count } => put_page(text, b"take ", node, u64::from(count)),
+        Op::Take { count } => put_page(text, b"take ", node, u64::from(*count)),
         Op::SplitNext => put_node(text, b"splitnext ", node),
         Op::PutBack => put_node(text, b"putback ", node),
     }
@@ -70,8 +74,8 @@ fn put_range(
     name: &[u8],
     node: u32,
     page: u64,
-    first: u16,
-    count: u16,
+    first: u32,
+    count: u32,
 ) -> Result<(), AllocError>
     ensures { OnOk result (text.new.items ≡ text.old.items ++ name.now ++ line_of (decimal node ∷ decimal page ∷ decimal first ∷ decimal count ∷ []) ++ 10 ∷ []) }
 {

@@ -6,7 +6,7 @@ use Rattle.thp_script.specs.declared.fault.ReadFault.TheVariants as reading
 use Rattle.thp_script.specs.declared.fault.TextKind.{TextKind}
 use Rattle.thp_journal_writer.specs.Totals.{lines_from}
 use Rattle.thp_journal_reader.specs.declared.long_check.Illegal.{Illegal}
-use Rattle.thp_journal_reader.specs.declared.journals.NodeJournal.{NodeJournal}
+use Rattle.thp_journal_reader.specs.declared.journals.ReadNode.{ReadNode}
 use Rattle.thp_journal_tools.specs.declared.checking.Summed.{Summed}
 use Rattle.thp_script.specs.declared.fault.LongReadFault.{LongReadFault}
 use Rattle.thp_script.specs.declared.fault.LongReadFault.TheVariants as summary
@@ -23,39 +23,43 @@ use Rattle.thp_journal_tools.specs.declared.program.CheckOptions.{CheckOptions}
 
 -- ---- what is found
 
+-- why a check ended at the writer
+abbrev pub at_writer : RunFault ℕ
+at_writer = Write
+
 -- nothing was found, since the reading failed
-at_reading : (known : Option (List ℕ)) (failed : Bool) (fault : RunFault) → IsReadingFault failed fault → IsFindFault known failed fault
+at_reading : (known : Option (List ℕ)) (failed : Bool) (fault : RunFault ℕ) → IsReadingFault failed fault → IsFindFault known failed fault
 at_reading known failed Read reading = reading
 at_reading known failed OutOfMemory reading = reading
 at_reading known failed Write reading = absurd reading
 at_reading known failed (Text line kind) reading = absurd reading
 
-pub err_at_reading : {A : Type 0} (known : Option (List ℕ)) (failed : Bool) (fault : RunFault) (r : Result A RunFault) → IsErrAnd r (λ e. e ≡ fault) → IsReadingFault failed fault → IfErr r (λ e. IsFindFault known failed e)
+pub err_at_reading : {A : Type 0} (known : Option (List ℕ)) (failed : Bool) (fault : RunFault ℕ) (r : Result A (RunFault ℕ)) → IsErrAnd r (λ e. e ≡ fault) → IsReadingFault failed fault → IfErr r (λ e. IsFindFault known failed e)
 err_at_reading known failed fault (Ok found) is reading = absurd is
 err_at_reading known failed fault (Err e) is reading =
-    let P : RunFault → Type 0 = λ f. IsFindFault known failed f in
+    let P : RunFault ℕ → Type 0 = λ f. IsFindFault known failed f in
     subst P (sym is) (at_reading known failed fault reading)
 
 module _ (known : Option (List ℕ)) (bytes : List ℕ) (read : IfSome known (IsFrontOf max_counted bytes)) (failed : Bool) (same : failed ≡ false) where
   -- the text is at fault
-  pub err_at_text : {A : Type 0} (line : ℕ) (kind : TextKind) (r : Result A RunFault) → IsErrAnd r (λ e. e ≡ Text line kind) → journals_within max_counted bytes ≡ Err (line, kind) → IfErr r (λ e. IsFindFault known failed e)
+  pub err_at_text : {A : Type 0} (line : ℕ) (kind : TextKind) (r : Result A (RunFault ℕ)) → IsErrAnd r (λ e. e ≡ Text line kind) → journals_within max_counted bytes ≡ Err (line, kind) → IfErr r (λ e. IsFindFault known failed e)
   err_at_text line kind (Ok found) is told = absurd is
   err_at_text line kind (Err e) is told =
-      let P : RunFault → Type 0 = λ f. IsFindFault known failed f in
+      let P : RunFault ℕ → Type 0 = λ f. IsFindFault known failed f in
       subst P (sym is) (bytes, read, told, same)
 
   -- or memory for the last totals was refused
-  pub err_at_summary : {A : Type 0} (fault : LongReadFault) (r : Result A RunFault) → IsErrAnd r (λ e. e ≡ fault_of_long_read fault) → ReportsLongReadFault (journals_within max_counted bytes) fault → IfErr r (λ e. IsFindFault known failed e)
+  pub err_at_summary : {A : Type 0} (fault : LongReadFault) (r : Result A (RunFault ℕ)) → IsErrAnd r (λ e. e ≡ fault_of_long_read fault) → ReportsLongReadFault (journals_within max_counted bytes) fault → IfErr r (λ e. IsFindFault known failed e)
   err_at_summary (summary.Text fault) r is told = err_at_text fault.line fault.kind r is told
   err_at_summary summary.OutOfMemory (Ok found) is told = absurd is
   err_at_summary summary.OutOfMemory (Err e) is told =
-      let P : RunFault → Type 0 = λ f. IsFindFault known failed f in
+      let P : RunFault ℕ → Type 0 = λ f. IsFindFault known failed f in
       subst P (sym is) same
 
 -- ---- the verdict
 
 -- what the first illegal event tells, its line tells
-line_told : (nodes : List NodeJournal) (illegal : Option Illegal) → ReportsFirst nodes illegal → ReportsIllegal nodes (line_of illegal)
+line_told : (nodes : List ReadNode) (illegal : Option Illegal) → ReportsFirst nodes illegal → ReportsIllegal nodes (line_of illegal)
 line_told nodes None first = first
 line_told nodes (Some illegal) first = first.line
 
@@ -100,7 +104,7 @@ module _ {A : Type 0} (IsAnswer : List ℕ → A → List ℕ → Type 0) (of_in
   HasFault bytes fault = journals_within max_counted bytes ≡ Err fault
 
   -- nothing was found
-  pub ends_at_find : (old : Option (List ℕ)) (reader_failed writer_failed : Bool) (fault : RunFault) (r : Result A RunFault) → IsFindFault known reader_failed fault → writer_failed ≡ false → r ≡ Err fault
+  pub ends_at_find : (old : Option (List ℕ)) (reader_failed writer_failed : Bool) (fault : RunFault ℕ) (r : Result A (RunFault ℕ)) → IsFindFault known reader_failed fault → writer_failed ≡ false → r ≡ Err fault
       → LongEnds IsAnswer known old old reader_failed writer_failed r
   ends_at_find old rf wf (Text line kind) r why f is =
       ends_early max_counted IsAnswer HasFault of_input (fault_of_journal max_counted) known why.0 why.1 old rf wf (reading.Text line kind) r why.2 why.3 f is
@@ -110,26 +114,26 @@ module _ {A : Type 0} (IsAnswer : List ℕ → A → List ℕ → Type 0) (of_in
 
   module _ (bytes : List ℕ) (read : IfSome known (IsFrontOf max_counted bytes)) where
     -- the writer took a front of the text
-    pub ends_at_write : (old new : Option (List ℕ)) (reader_failed writer_failed : Bool) (x : A) (text : List ℕ) (o : Option (Unit {0})) (r : Result A RunFault) → IsAnswer bytes x text → o ≡ None
+    pub ends_at_write : (old new : Option (List ℕ)) (reader_failed writer_failed : Bool) (x : A) (text : List ℕ) (o : Option (Unit {0})) (r : Result A (RunFault ℕ)) → IsAnswer bytes x text → o ≡ None
         → IfNone o (WritesFront old new text) → IfNone o (writer_failed ≡ true) → reader_failed ≡ false → r ≡ Err Write → LongEnds IsAnswer known old new reader_failed writer_failed r
     ends_at_write old new rf wf x text o r answer none cut failed e is =
         ends_cut max_counted IsAnswer HasFault of_input (fault_of_journal max_counted) known bytes read old new rf wf x text r answer (rw none at cut) e (rw none at failed) is
 
     -- the text was written
-    pub ends_told : (old new : Option (List ℕ)) (reader_failed writer_failed : Bool) (x : A) (text : List ℕ) (o : Option (Unit {0})) (u : Unit {0}) → IsAnswer bytes x text → ok_or o Write ≡ Ok u
+    pub ends_told : (old new : Option (List ℕ)) (reader_failed writer_failed : Bool) (x : A) (text : List ℕ) (o : Option (Unit {0})) (u : Unit {0}) → IsAnswer bytes x text → ok_or o at_writer ≡ Ok u
         → IfSome o (λ _. Appends old new text) → IfSome o (λ _. writer_failed ≡ false) → reader_failed ≡ false → LongEnds IsAnswer known old new reader_failed writer_failed (Ok x)
     ends_told old new rf wf x text (Some v) u answer some done flag e =
         ends_written max_counted IsAnswer HasFault of_input (fault_of_journal max_counted) known bytes read old new rf wf x text (Ok x) answer done e flag refl
     ends_told old new rf wf x text None u answer some done flag e = absurd cc
 
 -- no call of the writer was made
-pub none_at_find : {A : Type 0} (known : Option (List ℕ)) (r : Result A RunFault) (reader_failed writer_failed : Bool) (fault : RunFault) (calls : List DeviceCall) → IsFindFault known reader_failed fault → r ≡ Err fault → WritesAnswer r writer_failed calls calls
+pub none_at_find : {A : Type 0} (known : Option (List ℕ)) (r : Result A (RunFault ℕ)) (reader_failed writer_failed : Bool) (fault : RunFault ℕ) (calls : List DeviceCall) → IsFindFault known reader_failed fault → r ≡ Err fault → WritesAnswer r writer_failed calls calls
 none_at_find known r rf wf (Text line kind) calls why is = rw is refl
 none_at_find known r rf wf OutOfMemory calls why is = rw is refl
 none_at_find known r rf wf Read calls why is = rw is refl
 none_at_find known r rf wf Write calls why is = absurd why
 
 -- a writer that failed is told as that
-pub cut_from : (o : Option (Unit {0})) (fault : RunFault) → ok_or o Write ≡ Err fault → (o ≡ None) × (Write ≡ fault)
+pub cut_from : (o : Option (Unit {0})) (fault : RunFault ℕ) → ok_or o Write ≡ Err fault → (o ≡ None) × (Write ≡ fault)
 cut_from (Some u) fault e = absurd cc
 cut_from None fault e = (refl, cc)

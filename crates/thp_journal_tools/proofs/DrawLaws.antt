@@ -11,7 +11,7 @@ use Rattle.thp_cli.specs.declared.ending.ProgramFault.TheVariants.{Run, Usage, N
 use Rattle.thp_cli.specs.declared.fault.RunFault.{RunFault}
 use Rattle.thp_cli.specs.declared.fault.RunFault.TheVariants as run
 use Rattle.thp_cli.specs.Prelude.{ReadsOn, WritesOn, WritesFront, Device, Source}
-use Rattle.thp_journal_reader.specs.declared.journals.NodeJournal.{NodeJournal}
+use Rattle.thp_journal_reader.specs.declared.journals.ReadNode.{ReadNode}
 use Rattle.thp_script.specs.Prelude.{max_counted, IsFrontOf}
 use Rattle.thp_journal_reader.proofs.VerdictLaws.{same_journals}
 use Rattle.thp_journal_tools.specs.declared.draw_program.DrawOptions.{DrawOptions}
@@ -19,7 +19,7 @@ use Rattle.thp_journal_tools.specs.Checks.{IsFindFault}
 use Rattle.thp_journal_tools.specs.Drawings.{Draws, IsDrawingOf, IsFound, LacksNode, Shows}
 use Rattle.thp_journal_tools.specs.DrawOutcomes.{Does, IsOutputFault}
 use Rattle.thp_journal_tools.specs.Nodes.{IsDrawnOf}
-use Rattle.thp_journal_tools.proofs.CheckLaws.{ends_at_find, ends_at_write, ends_told, none_at_find}
+use Rattle.thp_journal_tools.proofs.CheckLaws.{at_writer, ends_at_find, ends_at_write, ends_told, none_at_find}
 
 -- the text of what was found
 pub drawing_of : (options : DrawOptions) (bytes text : List ℕ) (nodes : List DrawnNode) (ending : Ending) → IsFound bytes nodes → Shows options.table options.node nodes ending text → IsDrawingOf options bytes ending text
@@ -33,7 +33,7 @@ drawing_of_input options input bytes text ending read d =
 -- ---- nothing was written
 
 -- as many nodes are drawn as the journals have
-same_length : (nodes : List NodeJournal) (drawn : List DrawnNode) → AllZip IsDrawnOf nodes drawn → length nodes ≡ length drawn
+same_length : (nodes : List ReadNode) (drawn : List DrawnNode) → AllZip IsDrawnOf nodes drawn → length nodes ≡ length drawn
 same_length [] [] are = refl
 same_length [] (d ∷ drawn) are = absurd are
 same_length (n ∷ nodes) [] are = absurd are
@@ -52,7 +52,7 @@ abbrev pub same_device : Option (List ℕ) → Bool → List DeviceCall → Devi
 same_device content failed calls = record { before = content; after = content; failed = failed; called = calls; calls = calls }
 
 module _ (options : DrawOptions) (input : Source) (reads : ReadsOn max_counted input.failed input.called input.calls) (content : Option (List ℕ)) (failed : Bool) (flag : failed ≡ false) (calls : List DeviceCall) where
-  pub none_found : (fault : RunFault) → IsFindFault input.bytes input.failed fault → Draws options input (same_device content failed calls) (Err fault)
+  pub none_found : (fault : RunFault ℕ) → IsFindFault input.bytes input.failed fault → Draws options input (same_device content failed calls) (Err fault)
   none_found fault why = record {
     ends = ends_at_find (IsDrawingOf options) (drawing_of_input options) input.bytes content input.failed failed fault (Err fault) why flag refl;
     reads = reads;
@@ -80,7 +80,7 @@ module _ (options : DrawOptions) (input : Source) (output : Device) (reads : Rea
       writes = writes;
     }
 
-    pub drawn : (u : Unit {0}) → ok_or o run.Write ≡ Ok u → IfSome o (λ _. Appends output.before output.after text) → IfSome o (λ _. output.failed ≡ false) → Draws options input output (Ok ending)
+    pub drawn : (u : Unit {0}) → ok_or o at_writer ≡ Ok u → IfSome o (λ _. Appends output.before output.after text) → IfSome o (λ _. output.failed ≡ false) → Draws options input output (Ok ending)
     drawn u some appends flag = record {
       ends = ends_told (IsDrawingOf options) (drawing_of_input options) input.bytes bytes read output.before output.after input.failed output.failed ending text o u (drawing_of options bytes text nodes ending found shown) some appends flag done;
       reads = reads;

@@ -3,7 +3,7 @@ use Rattle.std.proofs.Common.{◌≡◌, ◌∷◌, [], ℕ, Option, Some, arith
 use Rattle.thp_drawing.specs.declared.node.IllegalEvent.{IllegalEvent}
 use Rattle.thp_drawing.specs.declared.node.DrawnNode.{DrawnNode}
 use Rattle.thp_journal_reader.specs.declared.long_check.Illegal.{Illegal}
-use Rattle.thp_journal_reader.specs.declared.journals.NodeJournal.{NodeJournal}
+use Rattle.thp_journal_reader.specs.declared.journals.ReadNode.{ReadNode}
 use Rattle.thp_journal_reader.specs.Prelude.{IsFirstIllegalEvent, IsKept, ReportsFirst}
 use Rattle.thp_journal_tools.specs.Keeping.{told_of, KeepsDrawing}
 use Rattle.thp_journal_tools.specs.Nodes.{IsDrawnOf, IsOwnIllegal, ReportsOwn}
@@ -11,20 +11,20 @@ use Rattle.thp_journal_tools.specs.Nodes.{IsDrawnOf, IsOwnIllegal, ReportsOwn}
 -- ---- illegal events
 
 -- the first illegal event of the only node is its own
-own_of_one : (node : NodeJournal) (illegal : Illegal) (place : ℕ) (here : NodeJournal) → slice_get (node ∷ []) place ≡ Some here → node ≡ here
+own_of_one : (node : ReadNode) (illegal : Illegal) (place : ℕ) (here : ReadNode) → slice_get (node ∷ []) place ≡ Some here → node ≡ here
 own_of_one node illegal x here e = grind arith
 
-own_illegal : (node : NodeJournal) (illegal : Illegal) → IsFirstIllegalEvent (node ∷ []) illegal → IsOwnIllegal node (record { line = illegal.line; event = illegal.event })
+own_illegal : (node : ReadNode) (illegal : Illegal) → IsFirstIllegalEvent (node ∷ []) illegal → IsOwnIllegal node (record { line = illegal.line; event = illegal.event })
 own_illegal node illegal first =
-    let P : NodeJournal → Type 0 = λ n. IsOwnIllegal n (record { line = illegal.line; event = illegal.event }) in
+    let P : ReadNode → Type 0 = λ n. IsOwnIllegal n (record { line = illegal.line; event = illegal.event }) in
     subst P (sym (own_of_one node illegal first.line.place first.line.node first.line.here)) (record { first = first.line.first; event_is = first.event })
 
-pub own_of : (node : NodeJournal) (illegal : Option Illegal) → ReportsFirst (node ∷ []) illegal → ReportsOwn node (told_of illegal)
+pub own_of : (node : ReadNode) (illegal : Option Illegal) → ReportsFirst (node ∷ []) illegal → ReportsOwn node (told_of illegal)
 own_of node x legal = grind (arith, own_illegal)
 
 -- ---- nodes
 
-pub as_drawn : (node : NodeJournal) (kept : DrawnNode) → IsKept KeepsDrawing node kept → IsDrawnOf node kept
+pub as_drawn : (node : ReadNode) (kept : DrawnNode) → IsKept KeepsDrawing node kept → IsDrawnOf node kept
 as_drawn node kept is =
     let T : Option IllegalEvent → Type 0 = λ i. ReportsOwn node i in
     let k = is.kept_is in

@@ -60,42 +60,46 @@ grows_by a b text None done cut = grows_cut a b text cut
 
 -- ---- faults
 
-pub err_is : {A : Type 0} (r : Result A RunFault) (rf wf : Bool) (fault : RunFault) → IsErrAnd r (λ e. e ≡ fault) → IsDeviceFault rf wf fault → IfErr r (λ e. IsDeviceFault rf wf e)
+pub err_is : {A : Type 0} (r : Result A (RunFault ℕ)) (rf wf : Bool) (fault : RunFault ℕ) → IsErrAnd r (λ e. e ≡ fault) → IsDeviceFault rf wf fault → IfErr r (λ e. IsDeviceFault rf wf e)
 err_is (Ok x) rf wf fault is why = absurd is
 err_is (Err e) rf wf fault is why = subst (λ f. IsDeviceFault rf wf f) (sym is) why
 
+-- why writing ended
+abbrev at_writer : RunFault ℕ
+at_writer = Write
+
 -- a writer that took the text has not failed
-pub told_from : (o : Option (Unit {0})) (u : Unit {0}) (P : Type 0) → ok_or o Write ≡ Ok u → IfSome o (λ _. P) → P
+pub told_from : (o : Option (Unit {0})) (u : Unit {0}) (P : Type 0) → ok_or o at_writer ≡ Ok u → IfSome o (λ _. P) → P
 told_from (Some v) u P e some = some
 told_from None u P e some = absurd cc
 
 -- a writer that did not is reported as that
-pub cut_end : {A : Type 0} (o : Option (Unit {0})) (fault : RunFault) (r : Result A RunFault) (wf : Bool) → ok_or o Write ≡ Err fault → IfNone o (wf ≡ true) → IsErrAnd r (λ e. e ≡ fault) → IfErr r (λ e. IsDeviceFault false wf e)
+pub cut_end : {A : Type 0} (o : Option (Unit {0})) (fault : RunFault ℕ) (r : Result A (RunFault ℕ)) (wf : Bool) → ok_or o Write ≡ Err fault → IfNone o (wf ≡ true) → IsErrAnd r (λ e. e ≡ fault) → IfErr r (λ e. IsDeviceFault false wf e)
 cut_end (Some v) fault r wf e failed is = absurd cc
-cut_end None fault r wf e failed is = err_is r false wf fault is (subst (λ (x : Result (Unit {0}) RunFault). IfErr x (λ f. IsDeviceFault false wf f)) e (refl, failed))
+cut_end None fault r wf e failed is = err_is r false wf fault is (subst (λ (x : Result (Unit {0}) (RunFault ℕ)). IfErr x (λ f. IsDeviceFault false wf f)) e (refl, failed))
 
 -- ---- the end
 
-device_end : (known old new : Option (List ℕ)) (rf wf : Bool) (fault : RunFault) → IsDeviceFault rf wf fault → IsScriptEnd known old new rf wf (Err fault)
+device_end : (known old new : Option (List ℕ)) (rf wf : Bool) (fault : RunFault ℕ) → IsDeviceFault rf wf fault → IsScriptEnd known old new rf wf (Err fault)
 device_end known old new rf wf (Text line kind) why = absurd why
 device_end known old new rf wf OutOfMemory why = why
 device_end known old new rf wf Read why = why
 device_end known old new rf wf Write why = why
 
 -- a device failed, or memory could not be allocated
-pub end_at_fault : (known old new : Option (List ℕ)) (rf wf : Bool) (r : Result Scripted RunFault) → IfErr r (λ e. IsDeviceFault rf wf e) → IsErrAnd r (λ e. Unit {0}) → IsScriptEnd known old new rf wf r
+pub end_at_fault : (known old new : Option (List ℕ)) (rf wf : Bool) (r : Result Scripted (RunFault ℕ)) → IfErr r (λ e. IsDeviceFault rf wf e) → IsErrAnd r (λ e. Unit {0}) → IsScriptEnd known old new rf wf r
 end_at_fault known old new rf wf (Ok found) why is = absurd is
 end_at_fault known old new rf wf (Err e) why is = device_end known old new rf wf e why
 
-pub is_err : {A : Type 0} (r : Result A RunFault) (P : RunFault → Type 0) → IsErrAnd r P → IsErrAnd r (λ e. Unit {0})
+pub is_err : {A : Type 0} (r : Result A (RunFault ℕ)) (P : RunFault ℕ → Type 0) → IsErrAnd r P → IsErrAnd r (λ e. Unit {0})
 is_err (Ok x) P is = absurd is
 is_err (Err e) P is = tt
 
 -- the journal has an error, or memory could not be allocated
-pub end_at_finish : (known old new : Option (List ℕ)) (bytes : List ℕ) → IfSome known (IsFrontOf max_counted bytes) → (rf wf : Bool) → rf ≡ false → wf ≡ false → (fault : LongReadFault) (r : Result Scripted RunFault)
+pub end_at_finish : (known old new : Option (List ℕ)) (bytes : List ℕ) → IfSome known (IsFrontOf max_counted bytes) → (rf wf : Bool) → rf ≡ false → wf ≡ false → (fault : LongReadFault) (r : Result Scripted (RunFault ℕ))
     → IsErrAnd r (λ e. e ≡ fault_of_long_read fault) → ReportsLongReadFault (journals_within max_counted bytes) fault → IsScriptEnd known old new rf wf r
 end_at_finish known old new bytes read rf wf no_read no_write fault (Ok found) is told = absurd is
 end_at_finish known old new bytes read rf wf no_read no_write (summary.Text fault) (Err e) is told =
-    subst (λ (f : RunFault). IsScriptEnd known old new rf wf (Err f)) (sym is) ((bytes, read, told), no_read, no_write)
+    subst (λ (f : RunFault ℕ). IsScriptEnd known old new rf wf (Err f)) (sym is) ((bytes, read, told), no_read, no_write)
 end_at_finish known old new bytes read rf wf no_read no_write summary.OutOfMemory (Err e) is told =
-    subst (λ (f : RunFault). IsScriptEnd known old new rf wf (Err f)) (sym is) (no_read, no_write)
+    subst (λ (f : RunFault ℕ). IsScriptEnd known old new rf wf (Err f)) (sym is) (no_read, no_write)

@@ -3,8 +3,8 @@ use Rattle.std.specs.Prelude.{◌≡◌, ◌++◌, ℕ, Bool, true, false, List,
 use Rattle.thp_script.specs.Prelude.{max_counted, IsFrontOf}
 use Rattle.thp_check.specs.Prelude.{explanation}
 use Rattle.thp_journal_reader.specs.declared.long_check.Illegal.{Illegal}
-use Rattle.thp_journal_reader.specs.declared.journals.Journals.{Journals}
-use Rattle.thp_journal_reader.specs.declared.journals.NodeJournal.{NodeJournal}
+use Rattle.thp_journal_reader.specs.declared.journals.ReadJournals.{ReadJournals}
+use Rattle.thp_journal_reader.specs.declared.journals.ReadNode.{ReadNode}
 use Rattle.thp_journal_tools.specs.declared.checking.Summed.{Summed}
 use Rattle.thp_journal_reader.specs.Prelude.{ReportsFirst, journals_within, is_legal, IsVerdictWithin}
 use Rattle.thp_journal_tools.specs.Summaries.{AreSummaries}
@@ -26,7 +26,7 @@ abbrev pub explanation_of : CheckOptions → Option Illegal → Option (List ℕ
 explanation_of options illegal = if options.explain then option_map (λ i. explanation i.line i.event i.misfit) illegal else None
 
 -- the totals of each node up to its first illegal event, if they are requested
-abbrev pub AreTotals : Bool → List NodeJournal → List Totals → Type 0
+abbrev pub AreTotals : Bool → List ReadNode → List Totals → Type 0
 AreTotals false nodes totals = totals ≡ []
 AreTotals true nodes totals = AreSummaries nodes totals
 
@@ -41,33 +41,33 @@ pub record IsCheckOf (options : CheckOptions) (input : List ℕ) (illegal : Opti
 
 -- the result for the text of a journal is right
 pub record IsFound (summary : Bool) (bytes : List ℕ) (found : Summed) : Type 0 where
-  pub journals : Journals
+  pub journals : ReadJournals
   pub spelled : journals_within max_counted bytes ≡ Ok journals
   pub first : ReportsFirst journals.nodes found.illegal
   pub totals_are : AreTotals summary journals.nodes found.totals.items
 
 -- why there is no result, for the bytes that could be read
-abbrev pub IsFindFault : Option (List ℕ) → Bool → RunFault → Type 0
+abbrev pub IsFindFault : Option (List ℕ) → Bool → RunFault ℕ → Type 0
 IsFindFault known failed (Text line kind) = (bytes : List ℕ) × IfSome known (IsFrontOf max_counted bytes) × (journals_within max_counted bytes ≡ Err (line, kind)) × (failed ≡ false)
 IsFindFault known failed OutOfMemory = failed ≡ false
 IsFindFault known failed Read = failed ≡ true
 IsFindFault known failed Write = ⊥
 
 -- the view that contracts have of the result: line numbers of any size
-abbrev pub found_in : Result CheckFinding RunFault → Result (Option Illegal) RunFault
+abbrev pub found_in : Result CheckFinding (RunFault ℕ) → Result (Option Illegal) (RunFault ℕ)
 found_in (Ok checked) = Ok checked.illegal
 found_in (Err fault) = Err fault
 
 -- how the reading of a journal of any length ends: with a result, or with the first error of the journal
-abbrev pub LongEnds : {A : Type 0} → (List ℕ → A → List ℕ → Type 0) → Option (List ℕ) → Option (List ℕ) → Option (List ℕ) → Bool → Bool → Result A RunFault → Type 0
+abbrev pub LongEnds : {A : Type 0} → (List ℕ → A → List ℕ → Type 0) → Option (List ℕ) → Option (List ℕ) → Option (List ℕ) → Bool → Bool → Result A (RunFault ℕ) → Type 0
 LongEnds IsAnswer = Ends IsAnswer (λ bytes fault. journals_within max_counted bytes ≡ Err fault)
 
 -- how the check of a journal ends: with its verdict, or with the first error of the journal
-abbrev pub CheckEnds : CheckOptions → Option (List ℕ) → Option (List ℕ) → Option (List ℕ) → Bool → Bool → Result (Option Illegal) RunFault → Type 0
+abbrev pub CheckEnds : CheckOptions → Option (List ℕ) → Option (List ℕ) → Option (List ℕ) → Bool → Bool → Result (Option Illegal) (RunFault ℕ) → Type 0
 CheckEnds options = LongEnds (IsCheckOf options)
 
 -- the check ended like this: with the first illegal event, or none
-pub record Checks (options : CheckOptions) (input : Source) (output : Device) (result : Result (Option Illegal) RunFault) : Type 0 where
+pub record Checks (options : CheckOptions) (input : Source) (output : Device) (result : Result (Option Illegal) (RunFault ℕ)) : Type 0 where
   pub ends : CheckEnds options input.bytes output.before output.after input.failed output.failed result
   pub reads : ReadsOn max_counted input.failed input.called input.calls
   pub writes : WritesAnswer result output.failed output.called output.calls

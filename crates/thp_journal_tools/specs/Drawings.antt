@@ -5,7 +5,7 @@ use Rattle.thp_journal_tools.specs.Checks.{LongEnds}
 use Rattle.thp_drawing.specs.Pictures.{node_picture, picture_text}
 use Rattle.thp_drawing.specs.Tables.{node_table, table_text}
 use Rattle.thp_drawing.specs.declared.node.DrawnNode.{DrawnNode}
-use Rattle.thp_journal_reader.specs.declared.journals.Journals.{Journals}
+use Rattle.thp_journal_reader.specs.declared.journals.ReadJournals.{ReadJournals}
 use Rattle.thp_journal_reader.specs.Prelude.{journals_within}
 use Rattle.thp_cli.specs.declared.ending.Ending.{Ending}
 use Rattle.thp_cli.specs.declared.fault.RunFault.{RunFault}
@@ -35,7 +35,7 @@ Shows table (Some n) nodes ending text =
 
 -- the text is that of the nodes in the input, each drawn up to its first illegal event; and the program ends like this
 pub record IsDrawingOf (options : DrawOptions) (input : List ℕ) (ending : Ending) (text : List ℕ) : Type 0 where
-  pub journals : Journals
+  pub journals : ReadJournals
   pub spelled : journals_within max_counted input ≡ Ok journals
   pub nodes : List DrawnNode
   pub drawn : AreDrawnOf journals.nodes nodes
@@ -43,23 +43,23 @@ pub record IsDrawingOf (options : DrawOptions) (input : List ℕ) (ending : Endi
 
 -- the drawings of the nodes in these bytes
 pub record IsFound (bytes : List ℕ) (nodes : List DrawnNode) : Type 0 where
-  pub journals : Journals
+  pub journals : ReadJournals
   pub spelled : journals_within max_counted bytes ≡ Ok journals
   pub drawn : AreDrawnOf journals.nodes nodes
 
 -- how a drawing ends: with the text of the nodes, or with the first error of the journal
-abbrev pub DrawEnds : DrawOptions → Option (List ℕ) → Option (List ℕ) → Option (List ℕ) → Bool → Bool → Result Ending RunFault → Type 0
+abbrev pub DrawEnds : DrawOptions → Option (List ℕ) → Option (List ℕ) → Option (List ℕ) → Bool → Bool → Result Ending (RunFault ℕ) → Type 0
 DrawEnds options = LongEnds (IsDrawingOf options)
 
 -- the drawing ended like this
-pub record Draws (options : DrawOptions) (input : Source) (output : Device) (result : Result Ending RunFault) : Type 0 where
+pub record Draws (options : DrawOptions) (input : Source) (output : Device) (result : Result Ending (RunFault ℕ)) : Type 0 where
   pub ends : DrawEnds options input.bytes output.before output.after input.failed output.failed result
   pub reads : ReadsOn max_counted input.failed input.called input.calls
   pub writes : WritesAnswer result output.failed output.called output.calls
 
 -- the journals in the input lack this node
 pub record LacksNode (input : List ℕ) (number : ℕ) : Type 0 where
-  pub journals : Journals
+  pub journals : ReadJournals
   pub spelled : journals_within max_counted input ≡ Ok journals
   pub lacks : length journals.nodes ≤ number
 

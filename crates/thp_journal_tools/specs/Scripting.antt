@@ -5,7 +5,7 @@ use Rattle.thp_script.specs.Prelude.{max_counted, IsFrontOf}
 use Rattle.thp_check.specs.Prelude.{explanation}
 use Rattle.thp_journal_scripts.specs.declared.folding.Moved.{Moved}
 use Rattle.thp_journal_reader.specs.declared.long_check.Illegal.{Illegal}
-use Rattle.thp_journal_reader.specs.declared.journals.Journals.{Journals}
+use Rattle.thp_journal_reader.specs.declared.journals.ReadJournals.{ReadJournals}
 use Rattle.thp_journal_reader.specs.Prelude.{ReportsFirst, journals_within, verdict_text}
 use Rattle.thp_journal_scripts.specs.Prelude.{IsScriptOf}
 use Rattle.thp_cli.specs.declared.fault.RunFault.{RunFault}
@@ -19,7 +19,7 @@ use Rattle.thp_journal_scripts.specs.declared.script_check.Scripted.{Scripted}
 -- The bytes are of journals with this first illegal event, and the text is the script of the events before it; what it does in
 -- another order, and the number of tries out of turn, are as found.
 pub record IsScripted (bytes text : List ℕ) (found : Scripted) : Type 0 where
-  pub journals : Journals
+  pub journals : ReadJournals
   pub spelled : journals_within max_counted bytes ≡ Ok journals
   pub first : ReportsFirst journals.nodes found.illegal
   pub script : IsScriptOf journals.nodes found.illegal text found.moved found.out_of_turn
@@ -29,14 +29,14 @@ abbrev pub Grows : Option (List ℕ) → Option (List ℕ) → Type 0
 Grows old new = (text : List ℕ) × Appends old new text
 
 -- a device failed, or memory could not be allocated
-abbrev pub IsDeviceFault : Bool → Bool → RunFault → Type 0
+abbrev pub IsDeviceFault : Bool → Bool → RunFault ℕ → Type 0
 IsDeviceFault reader_failed writer_failed (Text line kind) = ⊥
 IsDeviceFault reader_failed writer_failed OutOfMemory = (reader_failed ≡ false) × (writer_failed ≡ false)
 IsDeviceFault reader_failed writer_failed Read = (reader_failed ≡ true) × (writer_failed ≡ false)
 IsDeviceFault reader_failed writer_failed Write = (reader_failed ≡ false) × (writer_failed ≡ true)
 
 -- the result for the bytes that could be read, and what the writer took
-abbrev pub IsScriptEnd : Option (List ℕ) → Option (List ℕ) → Option (List ℕ) → Bool → Bool → Result Scripted RunFault → Type 0
+abbrev pub IsScriptEnd : Option (List ℕ) → Option (List ℕ) → Option (List ℕ) → Bool → Bool → Result Scripted (RunFault ℕ) → Type 0
 IsScriptEnd known old new reader_failed writer_failed (Ok found) =
     ((bytes : List ℕ) × (text : List ℕ) × IfSome known (IsFrontOf max_counted bytes) × Appends old new text × IsScripted bytes text found) × (reader_failed ≡ false) × (writer_failed ≡ false)
 IsScriptEnd known old new reader_failed writer_failed (Err (Text line kind)) =
@@ -44,11 +44,11 @@ IsScriptEnd known old new reader_failed writer_failed (Err (Text line kind)) =
 IsScriptEnd known old new reader_failed writer_failed (Err fault) = IsDeviceFault reader_failed writer_failed fault
 
 -- how it ends: the writer took a text, and the result is right
-abbrev pub ScriptEnds : Option (List ℕ) → Option (List ℕ) → Option (List ℕ) → Bool → Bool → Result Scripted RunFault → Type 0
+abbrev pub ScriptEnds : Option (List ℕ) → Option (List ℕ) → Option (List ℕ) → Bool → Bool → Result Scripted (RunFault ℕ) → Type 0
 ScriptEnds known old new reader_failed writer_failed result = Grows old new × IsScriptEnd known old new reader_failed writer_failed result
 
 -- the script was written like this: with the first illegal event, or none
-pub record Scripts (input : Source) (output : Device) (result : Result Scripted RunFault) : Type 0 where
+pub record Scripts (input : Source) (output : Device) (result : Result Scripted (RunFault ℕ)) : Type 0 where
   pub ends : ScriptEnds input.bytes output.before output.after input.failed output.failed result
   pub reads : ReadsOn max_counted input.failed input.called input.calls
 

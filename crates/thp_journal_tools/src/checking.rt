@@ -82,7 +82,7 @@ pub fn check_long<R: Read, W: Write, S: Write, C: Clock>(
     reader: &mut Watched<R>,
     writer: &mut Watched<W>,
     screen: &mut Screen<S, C>,
-) -> Result<CheckFinding, RunFault>
+) -> Result<CheckFinding, RunFault<u64>>
     requires reader { reader.old.failed ≡ false }
     requires writer { writer.old.failed ≡ false }
     requires screen { screen.old.writer.failed ≡ false }
@@ -95,7 +95,7 @@ pub fn check_long<R: Read, W: Write, S: Write, C: Clock>(
     let found = find(alloc, options, reader, screen)?;
     let explanation = explanation_of(alloc, options, &found.illegal)?;
     let text = text_of(alloc, &found)?;
-    write_text(writer, text.as_slice()).ok_or(RunFault::Write)?;
+    write_text(writer, text.as_slice()).ok_or::<RunFault<u64>>(RunFault::Write)?;
     Ok(CheckFinding {
         illegal: found.illegal,
         explanation,
@@ -109,7 +109,7 @@ pub(crate) fn find<R: Read, S: Write, C: Clock>(
     options: CheckOptions,
     reader: &mut Watched<R>,
     screen: &mut Screen<S, C>,
-) -> Result<Summed, RunFault>
+) -> Result<Summed, RunFault<u64>>
     requires reader { reader.old.failed ≡ false }
     requires screen { screen.old.writer.failed ≡ false }
     ensures found { IfOk result (λ found. (bytes : List ℕ) × IfSome (R.remaining reader.old.device) (IsFrontOf max_counted bytes) × IsFound options.summary bytes found) }

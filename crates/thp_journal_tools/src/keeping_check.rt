@@ -1,7 +1,7 @@
 //! The check of journals of any length that also keeps data of each node.
 ghost use Rattle.std.specs.Prelude.{◌≡◌, Ok, [], IfOk, IfErr, true};
 ghost use Rattle.thp_journal_reader.specs.Prelude.{journals_within, more_text_read, no_text_read, told_with, HasEnded, HasReadText, ReportsLongReadFault};
-ghost use Rattle.thp_journal_reader.specs.declared.journals.Journals.{Journals};
+ghost use Rattle.thp_journal_reader.specs.declared.journals.ReadJournals.{ReadJournals};
 ghost use Rattle.thp_script.specs.Prelude.{max_counted, Text};
 ghost use Rattle.thp_journal_tools.specs.Keeping.{KeepsTotals, LeavesTotals, KeepsDrawing, LeavesNumbers};
 ghost use Rattle.thp_journal_writer.specs.Prelude.{totals_of};
@@ -52,7 +52,7 @@ impl<K: Drop, F: FollowsNode<Kept = K>> KeepingCheck<K, F> {
     /// Returns the first illegal event of the whole text, and the data of each node. Fails with the first error of the text, even if
     /// that is after an illegal event, and if memory for the last node's data can't be allocated.
     pub fn finish(self) -> Result<(Option<Illegal>, Vec<K>), LongReadFault>
-        ensures kept { IfOk result (λ found. (journals : Journals) × (told_with self [] ≡ Ok journals) × HasEnded F.keeps F.FOLLOWS_ALL journals.nodes found.0 found.1.items) }
+        ensures kept { IfOk result (λ found. (journals : ReadJournals) × (told_with self [] ≡ Ok journals) × HasEnded F.keeps F.FOLLOWS_ALL journals.nodes found.0 found.1.items) }
         ensures fault { IfErr result (ReportsLongReadFault (told_with self [])) }
     {
         match self.text.finish() {

@@ -233,7 +233,7 @@ pub fn read_journal<R: Read, P: ReadsParts + Drop, S: Write, C: Clock>(
     first: P,
     reader: &mut Watched<R>,
     screen: &mut Screen<S, C>,
-) -> Result<P, RunFault>
+) -> Result<P, RunFault<u64>>
     requires reader { reader.old.failed ≡ false }
     requires screen { screen.old.writer.failed ≡ false }
     ensures parts { IfOk result (λ last. (bytes : List ℕ) × IfSome (R.remaining reader.old.device) (IsFrontOf max_counted bytes) × P.has_read first bytes last) }
@@ -246,9 +246,9 @@ pub fn read_journal<R: Read, P: ReadsParts + Drop, S: Write, C: Clock>(
         let mut progress = Progress::begin(&screen.clock, program, asked);
         let read = read_on(alloc, first, reader, &mut progress, screen);
         progress.end(screen);
-        read
+        Ok(read?)
     } else {
-        read_parts(first, MAX_COUNTED, reader)
+        Ok(read_parts(first, MAX_COUNTED, reader)?)
     }
 }
 

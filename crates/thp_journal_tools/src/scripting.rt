@@ -24,7 +24,7 @@ pub fn write_script<R: Read, W: Write>(
     alloc: Global,
     reader: &mut Watched<R>,
     writer: &mut Watched<W>,
-) -> Result<Scripted, RunFault>
+) -> Result<Scripted, RunFault<u64>>
     requires reader { reader.old.failed ≡ false }
     requires writer { writer.old.failed ≡ false }
     ensures ends { ScriptEnds (R.remaining reader.old.device) (W.contents writer.old.device) (W.contents writer.new.device) reader.new.failed writer.new.failed result }
@@ -39,8 +39,8 @@ pub fn write_script<R: Read, W: Write>(
     );
     let check = write_parts(alloc, reader, writer)?;
     let scripted = check.finish()?;
-    write_all(writer, scripted.text.as_slice()).ok_or(RunFault::Write)?;
-    writer.flush().ok_or(RunFault::Write)?;
+    write_all(writer, scripted.text.as_slice()).ok_or::<RunFault<u64>>(RunFault::Write)?;
+    writer.flush().ok_or::<RunFault<u64>>(RunFault::Write)?;
     Ok(scripted)
 }
 
@@ -49,7 +49,7 @@ fn write_parts<R: Read, W: Write>(
     alloc: Global,
     reader: &mut Watched<R>,
     writer: &mut Watched<W>,
-) -> Result<ScriptCheck, RunFault>
+) -> Result<ScriptCheck, RunFault<u64>>
     requires reader { reader.old.failed ≡ false }
     requires writer { writer.old.failed ≡ false }
     ensures parts { IfOk result (λ check. (bytes : List ℕ) × IfSome (R.remaining reader.old.device) (IsFrontOf max_counted bytes) × (told_with check.read [] ≡ journals_within max_counted bytes)) }
@@ -83,7 +83,7 @@ fn write_part<W: Write>(
     check: ScriptCheck,
     part: &[u8],
     writer: &mut Watched<W>,
-) -> Result<ScriptCheck, RunFault>
+) -> Result<ScriptCheck, RunFault<u64>>
     requires { writer.old.failed ≡ false }
     ensures read { IfOk result (λ new. (more : List ℕ) → told_with new.read more ≡ told_with check.read (part.now ++ more)) }
     ensures grows { Grows (W.contents writer.old.device) (W.contents writer.new.device) }

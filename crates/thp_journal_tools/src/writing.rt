@@ -111,7 +111,7 @@ pub fn draw<R: Read, W: Write, S: Write, C: Clock>(
 {
     let nodes = find_nodes(alloc, options.progress, reader, screen)?;
     let output = output_of(alloc, options, nodes.as_slice())?;
-    write_text(writer, output.text.as_slice()).ok_or(RunFault::Write)?;
+    write_text(writer, output.text.as_slice()).ok_or::<RunFault<u64>>(RunFault::Write)?;
     Ok(output.ending)
 }
 
@@ -121,7 +121,7 @@ pub(crate) fn find_nodes<R: Read, S: Write, C: Clock>(
     asked: bool,
     reader: &mut Watched<R>,
     screen: &mut Screen<S, C>,
-) -> Result<Vec<DrawnNode>, RunFault>
+) -> Result<Vec<DrawnNode>, RunFault<u64>>
     requires reader { reader.old.failed ≡ false }
     requires screen { screen.old.writer.failed ≡ false }
     ensures found { IfOk result (λ nodes. (bytes : List ℕ) × IfSome (R.remaining reader.old.device) (IsFrontOf max_counted bytes) × IsFound bytes nodes.items) }

@@ -10,7 +10,7 @@ use Rattle.thp_script.specs.Prelude.{Text}
 use Rattle.thp_journal_writer.specs.EventLines as written
 use Rattle.thp_journal_writer.specs.Journals as journal
 use Rattle.thp_journal_writer.specs.Prelude.{Journal, version_of, lines_of_node, journal_lines, journal_text}
-use Rattle.thp_journal_reader.specs.declared.journals.NodeJournal.{NodeJournal}
+use Rattle.thp_journal_reader.specs.declared.journals.ReadNode.{ReadNode}
 use Rattle.thp_journal_reader.specs.Prelude.{IsLegalNode, ReportsIllegal, node_journal}
 use Rattle.thp_journal_writer.specs.declared.version.Version.{Version}
 use Rattle.thp_laws.specs.ReadBack.{IsJournal, IsSameNode, nodes_from, TextsAreReadBack, TextsAreCalledLegal, NothingElseChanges, WhatIsReadIsLegal}
@@ -95,10 +95,10 @@ pub all_same : NothingElseChanges
 all_same js = same_from 2 js
 
 -- and legal
-legal_from : (line : ℕ) (js : List Journal) → AllByRecursion IsJournal js → All (λ (node : NodeJournal). IsLegal node.shape node.events) (nodes_from line js)
-legal_from line [] is = All-nil (λ (node : NodeJournal). IsLegal node.shape node.events)
+legal_from : (line : ℕ) (js : List Journal) → AllByRecursion IsJournal js → All (λ (node : ReadNode). IsLegal node.shape node.events) (nodes_from line js)
+legal_from line [] is = All-nil (λ (node : ReadNode). IsLegal node.shape node.events)
 legal_from line (j ∷ js) is =
-    All-cons (λ (node : NodeJournal). IsLegal node.shape node.events) (node_journal (line + 1) j.0 j.1) (nodes_from (line + 1 + length j.1) js)
+    All-cons (λ (node : ReadNode). IsLegal node.shape node.events) (node_journal (line + 1) j.0 j.1) (nodes_from (line + 1 + length j.1) js)
     (legal_with_least j.0 j.1 is.0.legal) (legal_from (line + 1 + length j.1) js is.1)
 
 -- what is read is legal
@@ -106,13 +106,13 @@ pub all_legal : WhatIsReadIsLegal
 all_legal js are = legal_from 2 js (recursion_from_All IsJournal js are.each)
 
 -- what holds of each node holds at a place
-node_at : (P : NodeJournal → Type 0) (nodes : List NodeJournal) (i : ℕ) (node : NodeJournal) → AllByRecursion P nodes → slice_get nodes i ≡ Some node → P node
+node_at : (P : ReadNode → Type 0) (nodes : List ReadNode) (i : ℕ) (node : ReadNode) → AllByRecursion P nodes → slice_get nodes i ≡ Some node → P node
 node_at P [] i node all e = absurd cc
 node_at P (x ∷ nodes) zero node all e = let same : x ≡ node = cc in subst P same all.0
 node_at P (x ∷ nodes) (suc i) node all e = node_at P nodes i node all.1 e
 
 -- of legal nodes no line is told
-no_line : (nodes : List NodeJournal) (line : Option ℕ) → All IsLegalNode nodes → ReportsIllegal nodes line → line ≡ None
+no_line : (nodes : List ReadNode) (line : Option ℕ) → All IsLegalNode nodes → ReportsIllegal nodes line → line ≡ None
 no_line nodes None legal tells = refl
 no_line nodes (Some line) legal tells =
     let node : IsLegalNode tells.node = node_at IsLegalNode nodes tells.place tells.node (recursion_from_All IsLegalNode nodes legal) tells.here in

@@ -27,17 +27,9 @@ abbrev pub OfCall : (Op → Type 0) → EventKind → Type 0
 OfCall P (Call o) = P o
 OfCall P _ = ⊤
 
--- an operand of 16 bits
-as_operand : (n : ℕ) → n < 65536 → min n 65535 ≡ n
-as_operand n low = grind arith
-
 -- the command was done with some answer, and there is no batch before or after it
 abbrev pub DoesAlone : Shape → History → ℕ → List Event → Op → Type 0
 DoesAlone s h c own o = (answer : Reaction) × Does s h c None (One o) own answer None
-
--- the operands of a command about a range are the numbers of its event
-same_range : (s : Shape) (h : History) (c : ℕ) (own : List Event) (w : ℕ → ℕ → Op) (first count : ℕ) → (first < 65536) × (count < 65536) → DoesAlone s h c own (w first count) → DoesAlone s h c own (w (min first 65535) (min count 65535))
-same_range s h c own w first count low done = subst (DoesAlone s h c own) (ap₂ w (sym (as_operand first low.0)) (sym (as_operand count low.1))) done
 
 -- the command of a call does its event, if that fits
 does_event : (s : Shape) (h : History) (c : ℕ) (w : What) → IsShape s → Fits s h (by c w) → OfCall (DoesAlone s h c (by c w ∷ [])) (kind_of w)
@@ -45,18 +37,13 @@ unfolding Does
 does_event s h c (what.Alloc p b) is fits = (Ok (reply.Page p), not_refused _ _ _ None None _ fits.allowed ((b, ap (λ n. by c (what.Alloc n b) ∷ []) fits.number, ap (λ n. Ok (reply.Page n)) fits.number), refl))
 does_event s h c (what.MapWhole p) is fits = (Ok reply.Unit, not_refused _ _ _ None None _ fits ((refl, refl), refl))
 does_event s h c (what.UnmapWhole o p set) is fits = (Ok (reply.Done (record { outcome = o; released = set })), not_refused _ _ _ None None _ fits.0 ((record { outcome = o; released = set }, refl, refl), refl))
-does_event s h c (what.MapSub p first count) is fits =
-    same_range s h c _ (λ a b. op.Map a b p) first count (small_range s first count is (allowed_map_sub s h p first count fits).1) (Ok reply.Unit, not_refused _ _ _ None None _ fits ((refl, refl), refl))
-does_event s h c (what.UnmapSub o p first count set) is fits =
-    same_range s h c _ (λ a b. op.Unmap a b p) first count (small_range s first count is (allowed_unmap_sub s h p first count fits.0).1)
-    (Ok (reply.Done (record { outcome = o; released = set })), not_refused _ _ _ None None _ fits.0 ((record { outcome = o; released = set }, refl, refl), refl))
+does_event s h c (what.MapSub p first count) is fits = (Ok reply.Unit, not_refused _ _ _ None None _ fits ((refl, refl), refl))
+does_event s h c (what.UnmapSub o p first count set) is fits = (Ok (reply.Done (record { outcome = o; released = set })), not_refused _ _ _ None None _ fits.0 ((record { outcome = o; released = set }, refl, refl), refl))
 does_event s h c (what.SplitPmd p) is fits = (Ok reply.Unit, not_refused _ _ _ None None _ fits ((refl, refl), refl))
 does_event s h c (what.Pin p) is fits = (Ok reply.Unit, not_refused _ _ _ None None _ fits ((refl, refl), refl))
 does_event s h c (what.Unpin o p set) is fits = (Ok (reply.Done (record { outcome = o; released = set })), not_refused _ _ _ None None _ fits.0 ((record { outcome = o; released = set }, refl, refl), refl))
-does_event s h c (what.Write p first count) is fits =
-    same_range s h c _ (λ a b. op.Write a b p) first count (small_range s first count is (allowed_write s h p first count fits).1) (Ok reply.Unit, not_refused _ _ _ None None _ fits ((refl, refl), refl))
-does_event s h c (what.Zero p first count) is fits =
-    same_range s h c _ (λ a b. op.Zero a b p) first count (small_range s first count is (allowed_zero s h p first count fits).1) (Ok reply.Unit, not_refused _ _ _ None None _ fits ((refl, refl), refl))
+does_event s h c (what.Write p first count) is fits = (Ok reply.Unit, not_refused _ _ _ None None _ fits ((refl, refl), refl))
+does_event s h c (what.Zero p first count) is fits = (Ok reply.Unit, not_refused _ _ _ None None _ fits ((refl, refl), refl))
 does_event s h c (what.Taken p) is fits = tt
 does_event s h c (what.Split p set) is fits = tt
 does_event s h c (what.Pinned p) is fits = tt

@@ -12,7 +12,7 @@ use Rattle.thp_run.specs.Answers.{answer_line, answers_text, section_text}
 use Rattle.thp_run.specs.Reports.{report_of, shape_in, told_of}
 use Rattle.thp_run.proofs.TotalsLaws.{totals_blind}
 use Rattle.thp_laws.proofs.OneTotals.{all_bare}
-use Rattle.thp_script.specs.declared.script.Script.{Script}
+use Rattle.thp_script.specs.declared.script.ScriptSections.{ScriptSections}
 use Rattle.thp_script.specs.declared.settings.Report.{Report}
 use Rattle.thp_script.specs.declared.settings.Report.TheVariants as report
 use Rattle.thp_script.specs.declared.settings.Settings.{Settings}
@@ -81,7 +81,7 @@ same_report : (r : Report) (js ks : List Journal) (xs ys : List SectionLog) → 
 same_report x js ks xs ys nodes sections = grind (arith, totals_blind, all_bare, one_text, told_shapes, same_sections)
 
 -- an input spells one script
-one_script : (script other : Script) (s : Settings) (input : List ℕ) → script_of s input ≡ Ok script → script_of s input ≡ Ok other → other ≡ script
+one_script : (script other : ScriptSections) (s : Settings) (input : List ℕ) → script_of s input ≡ Ok script → script_of s input ≡ Ok other → other ≡ script
 one_script script other s input e f = cc
 
 -- a script whose workers keep to nodes of their own has one report

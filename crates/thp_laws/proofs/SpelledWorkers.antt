@@ -3,7 +3,7 @@ use Rattle.std.proofs.Common.{◌≡◌, ℕ, List, length, Ok, ◌∙◌, arith
 use Rattle.std.specs.List.{range_with_len}
 use Rattle.std.proofs.lemmas.List.{length-map}
 use Rattle.std.proofs.lemmas.List.FromFn.{length-range_with_len}
-use Rattle.thp_script.specs.declared.script.Script.{Script}
+use Rattle.thp_script.specs.declared.script.ScriptSections.{ScriptSections}
 use Rattle.thp_script.specs.declared.settings.Settings.{Settings}
 use Rattle.thp_script.specs.Prelude.{Placed, commands_in, script_of, script_with}
 use Rattle.thp_laws.proofs.WorkersApart.{one_is_apart, place_of}
@@ -15,7 +15,7 @@ unfolding script_with
 workers_with workers placed = length-map (range_with_len 1 workers) (λ k. commands_in k placed) ∙ length-range_with_len 1 workers
 
 -- as many workers as the settings say
-as_many : (s : Settings) (input : List ℕ) (script : Script) → script_of s input ≡ Ok script → length script.workers ≡ s.workers
+as_many : (s : Settings) (input : List ℕ) (script : ScriptSections) → script_of s input ≡ Ok script → length script.workers ≡ s.workers
 unfolding script_of
 as_many s input script e = grind (arith, nat_lt, workers_with)
 

@@ -13,8 +13,8 @@ use Rattle.thp_history.proofs.LeastBlocks.{least_same, without_blocks_push}
 use Rattle.thp_history.proofs.SumsBelow.{sum_below-ext}
 use Rattle.thp_script.specs.Prelude.{Fault}
 use Rattle.thp_journal_writer.specs.Prelude.{Journal}
-use Rattle.thp_journal_reader.specs.declared.journals.Journals.{Journals}
-use Rattle.thp_journal_reader.specs.declared.journals.NodeJournal.{NodeJournal}
+use Rattle.thp_journal_reader.specs.declared.journals.ReadJournals.{ReadJournals}
+use Rattle.thp_journal_reader.specs.declared.journals.ReadNode.{ReadNode}
 use Rattle.thp_journal_reader.specs.Prelude.{journals_of, node_journal}
 use Rattle.thp_laws.specs.ReadBack.{nodes_from, with_lines}
 use Rattle.thp_laws.specs.SameTotals.{IsSameJournal, HaveSameTotals, OneTextIsOfOneRun, OneTextHasOneTotal}
@@ -132,7 +132,7 @@ totals_of_same j k same = subst (λ (s : Shape). HaveSameTotals j (s, k.1)) same
 -- ---- one text
 
 -- what is read, where nothing is at fault
-journals_read : Journals → Result Journals Fault
+journals_read : ReadJournals → Result ReadJournals Fault
 journals_read js = Ok js
 
 -- a history without its blocks has as many events
@@ -148,8 +148,8 @@ same_nodes line (j ∷ js) [] e = absurd cc
 same_nodes line (j ∷ js) (k ∷ ks) e =
     let one : node_journal (line + 1) j.0 j.1 ≡ node_journal (line + 1) k.0 k.1 = cc in
     let rest : nodes_from (line + 1 + length j.1) js ≡ nodes_from (line + 1 + length k.1) ks = cc in
-    let shape : j.0 ≡ k.0 = ap (λ (n : NodeJournal). n.shape) one in
-    let events : with_least_blocks j.0 j.1 ≡ with_least_blocks k.0 k.1 = ap (λ (n : NodeJournal). n.events) one in
+    let shape : j.0 ≡ k.0 = ap (λ (n : ReadNode). n.shape) one in
+    let events : with_least_blocks j.0 j.1 ≡ with_least_blocks k.0 k.1 = ap (λ (n : ReadNode). n.events) one in
     let same : SameButBlocks j.1 k.1 = least_same j.0 j.1 ∙ ap without_blocks events ∙ sym (least_same k.0 k.1) in
     let long : length j.1 ≡ length k.1 = as_long j.1 k.1 same in
     (record { shape = shape; events = same }, same_nodes (line + 1 + length j.1) js ks (rest ∙ ap (λ n. nodes_from (line + 1 + n) ks) (sym long)))

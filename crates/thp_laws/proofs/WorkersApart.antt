@@ -8,7 +8,7 @@ use Rattle.thp_history.specs.declared.events.Event.{Event}
 use Rattle.thp_history.specs.declared.shape.Shape.{Shape}
 use Rattle.thp_history.specs.Prelude.{SameButBlocks, History, events_of}
 use Rattle.thp_script.specs.declared.script.Command.{Command}
-use Rattle.thp_script.specs.declared.script.Script.{Script}
+use Rattle.thp_script.specs.declared.script.ScriptSections.{ScriptSections}
 use Rattle.thp_worker.specs.declared.reply.Answer.{Answer}
 use Rattle.thp_worker.specs.declared.reply.SectionLog.{SectionLog}
 use Rattle.thp_worker.specs.Prelude.{Made, steps_of}
@@ -69,7 +69,7 @@ sole_events c (e ∷ es) some idle =
 
 -- ---- one run
 
-module _ (nodes : ℕ) (shape : ℕ → Shape) (script : Script) (h : ℕ → History) (sections : List SectionLog) (r : IsRun nodes shape script h sections) where
+module _ (nodes : ℕ) (shape : ℕ → Shape) (script : ScriptSections) (h : ℕ → History) (sections : List SectionLog) (r : IsRun nodes shape script h sections) where
   -- each section of the script was done
   pub answered : (k : ℕ) (commands : List Command) → slice_get (sections_of script) k ≡ Some commands → (section : SectionLog) × IsAnswered nodes shape h k commands section
   answered k commands at =
@@ -103,7 +103,7 @@ module _ (nodes : ℕ) (shape : ℕ → Shape) (script : Script) (h : ℕ → Hi
 
 -- ---- two runs
 
-module _ (nodes : ℕ) (shape : ℕ → Shape) (script : Script) (h k : ℕ → History) (sections others : List SectionLog) (r : IsRun nodes shape script h sections) (t : IsRun nodes shape script k others) where
+module _ (nodes : ℕ) (shape : ℕ → Shape) (script : ScriptSections) (h k : ℕ → History) (sections others : List SectionLog) (r : IsRun nodes shape script h sections) (t : IsRun nodes shape script k others) where
   -- setups go side by side
   setups : (xs ys : List Answer) (s : IsSection nodes shape h 0 script.setup xs) (u : IsSection nodes shape k 0 script.setup ys) →
       Pair shape h k 0 (λ n. length (events_of 0 (h n))) (λ n. length (events_of 0 (k n))) no_batches no_batches (steps_of (s.turns ++ s.closed)) (steps_of (u.turns ++ u.closed))
@@ -223,7 +223,7 @@ one_run nodes shape script h k sections others (owner, apart) r t = record {
       by_section (suc i) commands x y at s u = worker_answers nodes shape script h k sections others r t owner apart i commands at x.answers.items y.answers.items s u
 
 -- one worker keeps to nodes of its own
-pub one_is_apart : (script : Script) → HasOneWorker script → AreApart script
+pub one_is_apart : (script : ScriptSections) → HasOneWorker script → AreApart script
 one_is_apart script (sole, none) = (λ n. sole, λ k commands at. go k commands at (nat_eq k sole) refl) where
   go : (k : ℕ) (commands : List Command) → slice_get script.workers k ≡ Some commands → (b : Bool) → nat_eq k sole ≡ b → All (λ (command : Command). sole ≡ k) commands
   go k commands at true e = λ i d lt. sym (eqb-true k sole e)

@@ -1,6 +1,6 @@
 -- The output for a script whose workers use different nodes.
 use Rattle.std.specs.Prelude.{◌≡◌, ◌≤◌, List, ℕ, Some, Ok, false}
-use Rattle.thp_script.specs.declared.script.Script.{Script}
+use Rattle.thp_script.specs.declared.script.ScriptSections.{ScriptSections}
 use Rattle.thp_script.specs.declared.settings.Settings.{Settings}
 use Rattle.thp_script.specs.Prelude.{script_of}
 use Rattle.thp_run.specs.Programs.{IsReport, RunEnds}
@@ -8,11 +8,11 @@ use Rattle.thp_laws.specs.OneRun.{AreApart, HasOneWorker}
 
 -- in the input's script no two workers have commands on the same node
 abbrev pub SpellsWorkersApart : Settings → List ℕ → Type 0
-SpellsWorkersApart s input = (script : Script) → script_of s input ≡ Ok script → AreApart script
+SpellsWorkersApart s input = (script : ScriptSections) → script_of s input ≡ Ok script → AreApart script
 
 -- this includes scripts where at most one worker has commands
 abbrev pub OneWorkerIsApart : Type 0
-OneWorkerIsApart = (s : Settings) (input : List ℕ) → ((script : Script) → script_of s input ≡ Ok script → HasOneWorker script) → SpellsWorkersApart s input
+OneWorkerIsApart = (s : Settings) (input : List ℕ) → ((script : ScriptSections) → script_of s input ≡ Ok script → HasOneWorker script) → SpellsWorkersApart s input
 
 -- it includes settings with one worker or none
 abbrev pub OneSettingIsApart : Type 0

@@ -5,8 +5,8 @@ use Rattle.thp_history.specs.declared.events.Event.{Event}
 use Rattle.thp_history.specs.Prelude.{max_callers, SameButBlocks, IsLegal, IsShape}
 use Rattle.thp_script.specs.Prelude.{max_input, max_nodes}
 use Rattle.thp_journal_writer.specs.Prelude.{Journal, journal_text}
-use Rattle.thp_journal_reader.specs.declared.journals.Journals.{Journals}
-use Rattle.thp_journal_reader.specs.declared.journals.NodeJournal.{NodeJournal}
+use Rattle.thp_journal_reader.specs.declared.journals.ReadJournals.{ReadJournals}
+use Rattle.thp_journal_reader.specs.declared.journals.ReadNode.{ReadNode}
 use Rattle.thp_journal_reader.specs.Prelude.{ReportsIllegal, journals_of, node_journal}
 
 -- the events of a node are legal, and its callers are numbers that a node can have
@@ -24,12 +24,12 @@ pub record AreTellable (journals : List Journal) : Type 0 where
 
 -- each journal with its shape and its first line, if the line of the first node is line `line`; each new page has the least block
 -- that holds no live page
-abbrev pub nodes_from : ℕ → List Journal → List NodeJournal
+abbrev pub nodes_from : ℕ → List Journal → List ReadNode
 nodes_from line [] = []
 nodes_from line (journal ∷ journals) = node_journal (line + 1) journal.0 journal.1 ∷ nodes_from (line + 1 + length journal.1) journals
 
 -- line 1 is that of the version, and line 2 that of the first node
-abbrev pub with_lines : List Journal → Journals
+abbrev pub with_lines : List Journal → ReadJournals
 with_lines journals = record { nodes = nodes_from 2 journals }
 
 -- reading the text of journals returns those journals, with the least blocks
@@ -37,7 +37,7 @@ abbrev pub TextsAreReadBack : Type 0
 TextsAreReadBack = (journals : List Journal) → AreTellable journals → journals_of (journal_text journals) ≡ Ok (with_lines journals)
 
 -- the node read has the shape of the one written, and its events except for their blocks
-pub record IsSameNode (written : Journal) (read : NodeJournal) : Type 0 where
+pub record IsSameNode (written : Journal) (read : ReadNode) : Type 0 where
   pub shape : read.shape ≡ written.0
   pub events : SameButBlocks written.1 read.events
 
@@ -47,9 +47,9 @@ NothingElseChanges = (journals : List Journal) → AllZip IsSameNode journals (w
 
 -- the nodes read are legal
 abbrev pub WhatIsReadIsLegal : Type 0
-WhatIsReadIsLegal = (journals : List Journal) → AreTellable journals → All (λ (node : NodeJournal). IsLegal node.shape node.events) (with_lines journals).nodes
+WhatIsReadIsLegal = (journals : List Journal) → AreTellable journals → All (λ (node : ReadNode). IsLegal node.shape node.events) (with_lines journals).nodes
 
 -- so a check of the text finds no illegal event
 abbrev pub TextsAreCalledLegal : Type 0
 TextsAreCalledLegal =
-    (journals : List Journal) (read : Journals) (line : Option ℕ) → AreTellable journals → journals_of (journal_text journals) ≡ Ok read → ReportsIllegal read.nodes line → line ≡ None
+    (journals : List Journal) (read : ReadJournals) (line : Option ℕ) → AreTellable journals → journals_of (journal_text journals) ≡ Ok read → ReportsIllegal read.nodes line → line ≡ None

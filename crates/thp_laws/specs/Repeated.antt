@@ -5,7 +5,7 @@ use Rattle.thp_history.specs.declared.shape.Shape.{Shape}
 use Rattle.thp_history.specs.Prelude.{SameButBlocks, History, IsLegal, IsShape}
 use Rattle.thp_script.specs.declared.script.Command.{Command}
 use Rattle.thp_script.specs.declared.script.Op.{Op}
-use Rattle.thp_script.specs.declared.script.Script.{Script}
+use Rattle.thp_script.specs.declared.script.ScriptSections.{ScriptSections}
 use Rattle.thp_journal_scripts.specs.declared.folding.Moved.{Moved}
 use Rattle.thp_journal_scripts.specs.Prelude.{IsScript, out_of_turn, IsWholeScans}
 use Rattle.thp_worker.specs.declared.reply.SectionLog.{SectionLog}
@@ -16,7 +16,7 @@ abbrev pub ops_on : ℕ → List Command → List Op
 ops_on n commands = map (λ (c : Command). c.op) (filter (λ (c : Command). nat_eq c.node n) commands)
 
 -- no worker has commands
-abbrev pub HasSetupOnly : Script → Type 0
+abbrev pub HasSetupOnly : ScriptSections → Type 0
 HasSetupOnly script = (k : ℕ) (commands : List Command) → slice_get script.workers k ≡ Some commands → commands ≡ []
 
 -- the legal history of caller 0 alone, whose batches are whole scans that try their pages in the order of the takes, and the script
@@ -33,6 +33,6 @@ pub record IsRepeated (s : Shape) (h : History) (ops : List Op) : Type 0 where
 -- a run of such a script for each node records the same histories, except for blocks
 abbrev pub ScriptsRepeatHistories : Type 0
 ScriptsRepeatHistories =
-    (nodes : ℕ) (shape : ℕ → Shape) (script : Script) (history made : ℕ → History) (sections : List SectionLog) →
+    (nodes : ℕ) (shape : ℕ → Shape) (script : ScriptSections) (history made : ℕ → History) (sections : List SectionLog) →
     IsRun nodes shape script made sections → HasSetupOnly script → ((n : ℕ) → IsRepeated (shape n) (history n) (ops_on n script.setup)) →
     (n : ℕ) → SameButBlocks (history n) (made n)

@@ -11,7 +11,7 @@ use Rattle.thp_run.proofs.BegunRunLaws.{begun_all, begun_nodes, starts_new}
 use Rattle.thp_worker.specs.declared.reply.SectionOutcome.{SectionOutcome}
 use Rattle.thp_worker.specs.Prelude.{fronts_in, Passes}
 use Rattle.thp_worker.proofs.StepLaws.{goes_trans}
-use Rattle.thp_script.specs.declared.script.Script.{Script}
+use Rattle.thp_script.specs.declared.script.ScriptSections.{ScriptSections}
 use Rattle.thp_script.specs.declared.settings.Settings.{Settings}
 use Rattle.thp_script.specs.declared.fault.ReadFault.{ReadFault}
 use Rattle.thp_script.specs.declared.fault.ReadFault.TheVariants as reading
@@ -44,7 +44,7 @@ pub reads_none : (failed : Bool) (calls : List DeviceCall) → failed ≡ false 
 reads_none failed calls is = rw is (reading_ended max_input max_input false calls calls [] calls (reading_none max_input calls) (inl refl) (omega arith) (sym (append-nil calls)))
 
 -- all that was read, and what was read behind the commands that are done
-pub read_whole : (s : Settings) (script script' : ReadSoFar) (q q' : Passes) (setup setup' : SectionOutcome) (bytes : List ℕ) (rest : Script) → (r : HasRead script q setup bytes script' q' setup') → spelled_with script bytes ≡ script_of s bytes
+pub read_whole : (s : Settings) (script script' : ReadSoFar) (q q' : Passes) (setup setup' : SectionOutcome) (bytes : List ℕ) (rest : ScriptSections) → (r : HasRead script q setup bytes script' q' setup') → spelled_with script bytes ≡ script_of s bytes
     → spelled_with script' [] ≡ Ok rest → script_of s bytes ≡ Ok (after_setup r.commands rest)
 read_whole s script script' q q' setup setup' bytes rest r begins is = grind (arith, append-nil)
 
@@ -55,7 +55,7 @@ read_faulty s script script' q q' setup setup' bytes fault r begins is = grind (
 
 -- a script with an error, or too little memory for it, ends before its run
 pub ends_at_fault : {A : Type 0} (s : Settings) (known : Option (List ℕ)) (failed : Bool) (script script' : ReadSoFar) (q q' : Passes) (setup setup' : SectionOutcome) (bytes : List ℕ) → IfSome known (IsInputOf bytes) → (r : HasRead script q setup bytes script' q' setup')
-    → spelled_with script bytes ≡ script_of s bytes → failed ≡ false → (fault : ReadFault) → ReportsFault (spelled_with script' []) fault → (result : Result A RunFault) → result ≡ Err (run_fault fault) → IfErr result (EndsBeforeRun s known failed)
+    → spelled_with script bytes ≡ script_of s bytes → failed ≡ false → (fault : ReadFault) → ReportsFault (spelled_with script' []) fault → (result : Result A (RunFault ℕ)) → result ≡ Err (run_fault fault) → IfErr result (EndsBeforeRun s known failed)
 ends_at_fault s known failed script script' q q' setup setup' bytes read r begins flag (reading.Text line kind) told result is =
     rw is (flag, record { bytes = bytes; read = read; told = read_faulty s script script' q q' setup setup' bytes (line, kind) r begins told })
 ends_at_fault s known failed script script' q q' setup setup' bytes read r begins flag reading.OutOfMemory told result is = rw is flag

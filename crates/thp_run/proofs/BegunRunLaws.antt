@@ -3,7 +3,7 @@ use Rattle.std.proofs.Common.{◌≡◌, ◌∙◌, ◌+◌, ◌++◌, ◌≤◌
 use Rattle.atomic_table.specs.Seated.{TableId}
 use Rattle.thp_cell.specs.Prelude.{PassState}
 use Rattle.thp_script.specs.declared.script.Command.{Command}
-use Rattle.thp_script.specs.declared.script.Script.{Script}
+use Rattle.thp_script.specs.declared.script.ScriptSections.{ScriptSections}
 use Rattle.thp_script.specs.declared.settings.Settings.{Settings}
 use Rattle.thp_script.specs.Prelude.{after_setup, IsScriptFor, max_nodes}
 use Rattle.thp_worker.specs.declared.reply.SectionOutcome.{SectionOutcome}
@@ -39,7 +39,7 @@ module _ (s : Settings) (cells : List TableId) (old : List PassState) (first : F
   pub begun_nodes : now.nodes ≡ s.nodes
   begun_nodes = b.goes.same.nodes ∙ starts_nodes s cells old b.new first b.starts
 
-  module _ (script : Script) (for-it : IsScriptFor s script) (few : AreFew script) (then end : Fronts) (done : SectionOutcome) (worked : SectionOutcome) (goes : Goes 0 now then) (ends : Goes 0 then end) (did : DidFirst 0 first then (before ++ script.setup) done) (works : Works 0 first end (before ++ script.setup) worked) where
+  module _ (script : ScriptSections) (for-it : IsScriptFor s script) (few : AreFew script) (then end : Fronts) (done : SectionOutcome) (worked : SectionOutcome) (goes : Goes 0 now then) (ends : Goes 0 then end) (did : DidFirst 0 first then (before ++ script.setup) done) (works : Works 0 first end (before ++ script.setup) worked) where
     pub begun_set_up : IsSetUp first end (before ++ script.setup) script.workers worked
     begun_set_up =
         let fits = script_fits s script first.nodes for-it few (starts_nodes s cells old b.new first b.starts) s.within_limits.least_workers s.within_limits.most_workers in

@@ -11,12 +11,16 @@ use Rattle.thp_cli.specs.Prelude.{WritesFront, run_fault}
 use Rattle.thp_cli.proofs.PassageLaws.{ends_cut, ends_early, ends_written, tells_of}
 use Rattle.thp_run.specs.Checks.{CheckEnds}
 
+-- why a run ended at the writer
+abbrev pub at_writer : RunFault ℕ
+at_writer = Write
+
 -- a writer that failed is told as that
-pub cut_from : (o : Option (Unit {0})) (fault : RunFault) → ok_or o Write ≡ Err fault → (o ≡ None) × (Write ≡ fault)
+pub cut_from : (o : Option (Unit {0})) (fault : RunFault ℕ) → ok_or o Write ≡ Err fault → (o ≡ None) × (Write ≡ fault)
 cut_from x fault e = grind arith
 
 -- the writer took a front of the verdict
-pub check_ends_cut : (known old new : Option (List ℕ)) (bytes text : List ℕ) (reader_failed writer_failed : Bool) (illegal : Option ℕ) (o : Option (Unit {0})) (r : Result Bool RunFault) → IfSome known (IsInputOf bytes) → IsVerdict bytes (is_legal illegal) text
+pub check_ends_cut : (known old new : Option (List ℕ)) (bytes text : List ℕ) (reader_failed writer_failed : Bool) (illegal : Option ℕ) (o : Option (Unit {0})) (r : Result Bool (RunFault ℕ)) → IfSome known (IsInputOf bytes) → IsVerdict bytes (is_legal illegal) text
     → o ≡ None → IfNone o (WritesFront old new text) → IfNone o (writer_failed ≡ true) → reader_failed ≡ false → r ≡ Err Write → CheckEnds known old new reader_failed writer_failed r
 check_ends_cut known old new bytes text rf wf illegal o r read v none cut failed e is =
     ends_cut max_input IsVerdict (λ input f. journals_of input ≡ Err f) (verdict_of_input max_input) (fault_of_journal max_input) known bytes read old new rf wf (is_legal illegal) text r v (rw none at cut) e (rw none at failed) is
@@ -27,10 +31,10 @@ legal_is x y e = grind arith
 
 -- the verdict was written
 pub check_ends_written : (known old new : Option (List ℕ)) (bytes text : List ℕ) (reader_failed writer_failed : Bool) (illegal : Option ℕ) (o : Option (Unit {0})) (u : Unit {0}) (legal : Bool) → IfSome known (IsInputOf bytes) → IsVerdict bytes (is_legal illegal) text
-    → ok_or o Write ≡ Ok u → IfSome o (λ _. Appends old new text) → IfSome o (λ _. writer_failed ≡ false) → reader_failed ≡ false → legal ≡ is_legal illegal → CheckEnds known old new reader_failed writer_failed (Ok legal)
+    → ok_or o at_writer ≡ Ok u → IfSome o (λ _. Appends old new text) → IfSome o (λ _. writer_failed ≡ false) → reader_failed ≡ false → legal ≡ is_legal illegal → CheckEnds known old new reader_failed writer_failed (Ok legal)
 check_ends_written known old new bytes text rf wf illegal x u legal read verdict some done flag e is = grind (arith, ends_written, verdict_of_input, fault_of_journal)
 
 -- the journal was at fault, or memory was refused
-pub check_ends_early : (known old : Option (List ℕ)) (bytes : List ℕ) (reader_failed writer_failed : Bool) (fault : ReadFault) (r : Result Bool RunFault) → IfSome known (IsInputOf bytes) → ReportsFault (journals_of bytes) fault
+pub check_ends_early : (known old : Option (List ℕ)) (bytes : List ℕ) (reader_failed writer_failed : Bool) (fault : ReadFault) (r : Result Bool (RunFault ℕ)) → IfSome known (IsInputOf bytes) → ReportsFault (journals_of bytes) fault
     → reader_failed ≡ false → writer_failed ≡ false → r ≡ Err (run_fault fault) → CheckEnds known old old reader_failed writer_failed r
 check_ends_early known old bytes rf wf fault r read told e f is = grind (arith, ends_early, verdict_of_input, fault_of_journal, tells_of)

@@ -10,7 +10,7 @@ use Rattle.thp_run.specs.Sections.{SectionAnswersAre}
 use Rattle.thp_worker.specs.declared.answer_log.Answers.TheVariants.{Kept}
 use Rattle.thp_worker.specs.declared.reply.SectionLog.{SectionLog}
 use Rattle.thp_worker.specs.Prelude.{if_kept}
-use Rattle.thp_script.specs.declared.script.Script.{Script}
+use Rattle.thp_script.specs.declared.script.ScriptSections.{ScriptSections}
 use Rattle.thp_script.specs.declared.settings.Report.{Report}
 use Rattle.thp_script.specs.declared.settings.Report.TheVariants as report
 use Rattle.thp_script.specs.declared.settings.Settings.{Settings}
@@ -32,11 +32,11 @@ kept_report report.Journal nodes sections kept = refl
 kept_report report.Answers nodes sections kept = ap (answers_text (map shape_in (map told_of nodes))) (all_kept sections (kept refl))
 
 -- the text is the report of each input that spells the script
-abbrev pub IsReportOf : Settings → Script → List ℕ → Type 0
+abbrev pub IsReportOf : Settings → ScriptSections → List ℕ → Type 0
 IsReportOf s script text = (input : List ℕ) → script_of s input ≡ Ok script → IsReport s input text
 
 -- what is told of a run is its report
-pub is_report : (s : Settings) (script : Script) (nodes : List NodeState) (sections : List SectionLog) (text : List ℕ) → AreNodesFor s nodes →
+pub is_report : (s : Settings) (script : ScriptSections) (nodes : List NodeState) (sections : List SectionLog) (text : List ℕ) → AreNodesFor s nodes →
     IsRun s.nodes (shapes_of nodes) script (histories_of nodes) sections → text ≡ report_of s.report (map told_of nodes) sections → IsReportOf s script text
 is_report s script nodes sections text made run told = λ input spelled. record {
   script = script;
@@ -49,7 +49,7 @@ is_report s script nodes sections text made run told = λ input spelled. record 
 }
 
 -- and so is what is told of the answers that it kept
-pub is_kept_report : (s : Settings) (script : Script) (nodes : List NodeState) (sections kept : List SectionLog) (text : List ℕ) → AreNodesFor s nodes →
+pub is_kept_report : (s : Settings) (script : ScriptSections) (nodes : List NodeState) (sections kept : List SectionLog) (text : List ℕ) → AreNodesFor s nodes →
     IsRun s.nodes (shapes_of nodes) script (histories_of nodes) sections → (s.report ≡ report.Answers → All (SectionAnswersAre Kept) sections) → kept ≡ map with_stored sections →
     text ≡ report_of s.report (map told_of nodes) kept → IsReportOf s script text
 is_kept_report s script nodes sections kept text made run all is told =

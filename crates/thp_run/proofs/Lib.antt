@@ -10,5 +10,6 @@ pub mod BegunRunLaws
 pub mod PassageLaws
 pub mod CheckLaws
 pub mod KeptLaws
+pub mod OpenedLaws
 pub mod ListedLaws
 pub mod BegunLaws

@@ -2,7 +2,7 @@
 use Rattle.std.proofs.Common.{◌≡◌, ◌∙◌, ℕ, Bool, true, false, List, Option, Some, Ok, Err, arith, map, sym, IfNone, IfSome, Result, ok_or, append-nil, length-append}
 use Rattle.std.specs.Io.KnownBytes.{Appends}
 use Rattle.std.proofs.lemmas.Bool.{cases_lt}
-use Rattle.thp_script.specs.declared.script.Script.{Script}
+use Rattle.thp_script.specs.declared.script.ScriptSections.{ScriptSections}
 use Rattle.thp_script.specs.declared.settings.Settings.{Settings}
 use Rattle.thp_script.specs.Prelude.{Fault, script_of, IsInputOf}
 use Rattle.thp_script.proofs.ScriptLaws.{too_long}
@@ -29,7 +29,7 @@ pub fault_of_script : (s : Settings) (input bytes : List ℕ) (fault : Fault) �
 fault_of_script s input bytes fault read told = sym (same_script s input bytes read) ∙ told
 
 -- how a run ends on what was read of an input is how it ends on the input
-pub ends_of_input : (s : Settings) (known old new : Option (List ℕ)) (bytes : List ℕ) (reader_failed writer_failed : Bool) (r : Result (Unit {0}) RunFault) → IfSome known (IsInputOf bytes)
+pub ends_of_input : (s : Settings) (known old new : Option (List ℕ)) (bytes : List ℕ) (reader_failed writer_failed : Bool) (r : Result (Unit {0}) (RunFault ℕ)) → IfSome known (IsInputOf bytes)
     → RunEnds s (Some bytes) old new false writer_failed r → reader_failed ≡ false → RunEnds s known old new reader_failed writer_failed r
 ends_of_input s y old new bytes rf wf z read x e = grind (arith, report_of_input, fault_of_script)
 
@@ -43,20 +43,20 @@ pub wrote_by : (text : List ℕ) (old new : Option (List ℕ)) (failed : Bool) (
 wrote_by text old new failed x done cut flag set = grind arith
 
 -- so ends a run whose report the text is
-pub wrote_ends : (s : Settings) (script : Script) (text : List ℕ) (old new : Option (List ℕ)) (failed : Bool) (r : Result (Unit {0}) RunFault) → IsReportOf s script text → Wrote text old new failed r
+pub wrote_ends : (s : Settings) (script : ScriptSections) (text : List ℕ) (old new : Option (List ℕ)) (failed : Bool) (r : Result (Unit {0}) (RunFault ℕ)) → IsReportOf s script text → Wrote text old new failed r
     → (input : List ℕ) → script_of s input ≡ Ok script → RunEnds s (Some input) old new false failed r
 wrote_ends s script text old new failed x is w input spelled = grind arith
 
 -- a script was run, and its report was written, or a front of it
-pub run_wrote : (s : Settings) (known : Option (List ℕ)) (nodes : List NodeState) (sections : List SectionLog) (text : List ℕ) (old new : Option (List ℕ)) (reader_failed writer_failed : Bool) (r : Result (Unit {0}) RunFault) → HasRun s known nodes sections
+pub run_wrote : (s : Settings) (known : Option (List ℕ)) (nodes : List NodeState) (sections : List SectionLog) (text : List ℕ) (old new : Option (List ℕ)) (reader_failed writer_failed : Bool) (r : Result (Unit {0}) (RunFault ℕ)) → HasRun s known nodes sections
     → text ≡ report_of s.report (map told_of nodes) sections → Wrote text old new writer_failed r → reader_failed ≡ false → RunEnds s known old new reader_failed writer_failed r
 run_wrote s known nodes sections text old new rf wf r ran told w e = grind (arith, ends_of_input, wrote_ends, is_report)
 
 -- the same of the answers that it kept
-pub run_wrote_kept : (s : Settings) (known : Option (List ℕ)) (nodes : List NodeState) (sections : List SectionLog) (text : List ℕ) (old new : Option (List ℕ)) (reader_failed writer_failed : Bool) (r : Result (Unit {0}) RunFault) → HasRun s known nodes sections
+pub run_wrote_kept : (s : Settings) (known : Option (List ℕ)) (nodes : List NodeState) (sections : List SectionLog) (text : List ℕ) (old new : Option (List ℕ)) (reader_failed writer_failed : Bool) (r : Result (Unit {0}) (RunFault ℕ)) → HasRun s known nodes sections
     → text ≡ report_of s.report (map told_of nodes) (map with_stored sections) → Wrote text old new writer_failed r → reader_failed ≡ false → RunEnds s known old new reader_failed writer_failed r
 run_wrote_kept s known nodes sections text old new rf wf r ran told w e = grind (arith, ends_of_input, wrote_ends, is_kept_report)
 
 -- no script was run
-pub not_run_ends : (s : Settings) (known old : Option (List ℕ)) (reader_failed writer_failed : Bool) (fault : RunFault) (r : Result (Unit {0}) RunFault) → EndsBeforeRun s known reader_failed fault → writer_failed ≡ false → r ≡ Err fault → RunEnds s known old old reader_failed writer_failed r
+pub not_run_ends : (s : Settings) (known old : Option (List ℕ)) (reader_failed writer_failed : Bool) (fault : RunFault ℕ) (r : Result (Unit {0}) (RunFault ℕ)) → EndsBeforeRun s known reader_failed fault → writer_failed ≡ false → r ≡ Err fault → RunEnds s known old old reader_failed writer_failed r
 not_run_ends s known old rf wf x r n f is = grind (arith, ends_early, report_of_input, fault_of_script, keeps_same)

@@ -4,7 +4,7 @@ use Rattle.std.proofs.lemmas.List.{append-nil, drop_all}
 use Rattle.std.proofs.lemmas.Option.{slice_get_read}
 use Rattle.std.proofs.lemmas.List.Elements.{All-cons, All-head, All-nil, All-push, All-tail}
 use Rattle.thp_script.specs.declared.script.Command.{Command}
-use Rattle.thp_script.specs.declared.script.Script.{Script}
+use Rattle.thp_script.specs.declared.script.ScriptSections.{ScriptSections}
 use Rattle.thp_script.specs.Prelude.{max_workers}
 use Rattle.thp_worker.specs.declared.answer_log.Answers.{Answers}
 use Rattle.thp_worker.specs.declared.reply.SectionLog.{SectionLog}
@@ -152,7 +152,7 @@ rest_ordered first f workers started done (w ∷ rest) r none = absurd (omega (a
 
 -- ---- the whole
 
-module _ (f mid : Fronts) (script : Script) (new : IsNew (length script.workers) f) (fits : IsFitScript f.nodes script) (begins : Goes 0 f mid) where
+module _ (f mid : Fronts) (script : ScriptSections) (new : IsNew (length script.workers) f) (fits : IsFitScript f.nodes script) (begins : Goes 0 f mid) where
   pub workers_fit : (nodes : ℕ) → nodes ≡ f.nodes → All (halves.IsSection nodes) script.workers
   workers_fit nodes is = rw is fits.workers
 

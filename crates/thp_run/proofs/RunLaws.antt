@@ -10,7 +10,7 @@ use Rattle.thp_history.specs.Prelude.{History, events_of}
 use Rattle.thp_history.proofs.LegalSteps.{legal_none}
 use Rattle.thp_cell.proofs.Fronts.{all_front}
 use Rattle.thp_script.specs.declared.script.Command.{Command}
-use Rattle.thp_script.specs.declared.script.Script.{Script}
+use Rattle.thp_script.specs.declared.script.ScriptSections.{ScriptSections}
 use Rattle.thp_worker.specs.declared.reply.Answer.{Answer}
 use Rattle.thp_worker.specs.declared.reply.SectionLog.{SectionLog}
 use Rattle.thp_worker.specs.declared.reply.SectionOutcome.{SectionOutcome}
@@ -146,7 +146,7 @@ pub same_nodes : (f g : Fronts) → SameHolding f g → SameNodes f g
 same_nodes f g s = record { cells = s.cells; nodes = s.nodes; shape = s.shape; callers = s.callers }
 
 -- nothing happened before, and nobody beyond the workers did anything
-module _ (f g : Fronts) (script : Script) (sections : List SectionLog) (new : IsNew (length script.workers) f) (r : RunsTo f g script sections) (below : (n : ℕ) → All (λ (e : Event). e.caller < 1 + length script.workers) (g.front n)) where
+module _ (f g : Fronts) (script : ScriptSections) (sections : List SectionLog) (new : IsNew (length script.workers) f) (r : RunsTo f g script sections) (below : (n : ℕ) → All (λ (e : Event). e.caller < 1 + length script.workers) (g.front n)) where
   mid : Fronts
   mid = r.between
 

@@ -9,7 +9,7 @@ use Rattle.thp_node.specs.Prelude.{NodeState}
 use Rattle.thp_cell.specs.Prelude.{AllBelow, PassState}
 use Rattle.thp_script.specs.declared.script.Command.{Command}
 use Rattle.thp_script.specs.declared.script.Op.{Op}
-use Rattle.thp_script.specs.declared.script.Script.{Script}
+use Rattle.thp_script.specs.declared.script.ScriptSections.{ScriptSections}
 use Rattle.thp_script.specs.declared.settings.Settings.{Settings}
 use Rattle.thp_script.specs.Prelude.{FitsBatch, max_nodes, max_workers, IsScriptFor}
 use Rattle.thp_script.specs.Commands as text
@@ -81,7 +81,7 @@ whole_after callers [] each = All-nil (IsWhole callers)
 whole_after callers (h ∷ held) each = All-cons (IsWhole callers) h.pass (map pass_of held) (each 0 h refl) (whole_after callers held (λ n h at. each (suc n) h at))
 
 -- the passes of a run, before and after it
-pub runs_on : (callers : ℕ) (ps : List PassState) (held : List Held) (q : Passes) (script : Script) (sections : List SectionLog) → Pairs IsUnused ps held → All (IsFresh callers) ps → callers ≡ 1 + length script.workers
+pub runs_on : (callers : ℕ) (ps : List PassState) (held : List Held) (q : Passes) (script : ScriptSections) (sections : List SectionLog) → Pairs IsUnused ps held → All (IsFresh callers) ps → callers ≡ 1 + length script.workers
     → Agree q.callers q.first q.end q.held → RunsTo (fronts_of callers 0 callers held) (fronts_in q) script sections → RunsOn ps (map pass_of q.held) script sections
 runs_on callers ps held q script sections pairs fresh count agree r =
     let same = r.goes.same in
@@ -115,7 +115,7 @@ fit_op x fits = grind arith
 pub commands_fit : (nodes : ℕ) (commands : List Command) → All (text.IsCommandFor nodes) commands → All (IsCommandFor nodes) commands
 commands_fit nodes commands fit = λ k d lt. let one = fit k d lt in record { node_exists = one.node_exists; fits = fit_op (get_or commands k d).op one.fits_batch }
 
-pub script_fits : (s : Settings) (script : Script) (nodes : ℕ) → IsScriptFor s script → AreFew script → nodes ≡ s.nodes → 1 ≤ s.workers → s.workers ≤ max_workers → IsFitScript nodes script
+pub script_fits : (s : Settings) (script : ScriptSections) (nodes : ℕ) → IsScriptFor s script → AreFew script → nodes ≡ s.nodes → 1 ≤ s.workers → s.workers ≤ max_workers → IsFitScript nodes script
 script_fits s script nodes for-it few is least most = grind (arith, commands_fit, get_or)
 
 -- ---- nodes again
@@ -130,7 +130,7 @@ events_below callers (x ∷ ps) (node ∷ nodes) p whole zero =
     subst (λ n. AllBelow n x.front) one.callers_are own
 events_below callers (x ∷ ps) (node ∷ nodes) p whole (suc n) = events_below callers ps nodes p.1 (All-tail (IsWhole callers) x ps whole) n
 
-module _ (s : Settings) (script : Script) (cells : List TableId) (old new-passes : List PassState) (nodes : List NodeState) (sections : List SectionLog)
+module _ (s : Settings) (script : ScriptSections) (cells : List TableId) (old new-passes : List PassState) (nodes : List NodeState) (sections : List SectionLog)
     (began : AreNew s cells old) (run : RunsOn old new-passes script sections) (ends : Pairs IsNodeOf new-passes nodes) where
   count : length nodes ≡ s.nodes
   count = sym (pairs_length IsNodeOf new-passes nodes ends) ∙ run.count ∙ began.count

@@ -5,5 +5,5 @@ use Rattle.thp_cli.specs.declared.fault.RunFault.{RunFault}
 use Rattle.thp_cli.specs.Prelude.{Ends}
 
 -- with its verdict, or with the first error of the journal
-abbrev pub CheckEnds : Option (List ℕ) → Option (List ℕ) → Option (List ℕ) → Bool → Bool → Result Bool RunFault → Type 0
+abbrev pub CheckEnds : Option (List ℕ) → Option (List ℕ) → Option (List ℕ) → Bool → Bool → Result Bool (RunFault ℕ) → Type 0
 CheckEnds = Ends IsVerdict (λ input fault. journals_of input ≡ Err fault)

@@ -1,10 +1,9 @@
 -- The equality of two sections whose answers are stored in vectors: field by field, and answer by answer.
 use Rattle.std.specs.Prelude.{Bool, nat_eq}
-use Rattle.std.specs.Cmp.{IsEquivalence, IsPartialEquivalence, bool_eq_equiv, partial_equiv_from_equiv}
+use Rattle.std.specs.Cmp.{IsEquivalence, IsPartialEquivalence, partial_equiv_from_equiv}
 use Rattle.std.specs.Cmp.Lexicographic.{options_equiv, pointwise}
 use Rattle.std.specs.Option.{option_eq}
 use Rattle.std.specs.Ordering.{on, eq_of_both}
-use Rattle.std.proofs.Math.Bool.{beq}
 use Rattle.std.proofs.lemmas.Cmp.{and_equiv, lists_equiv, nat_eq_equiv, on_equiv}
 use Rattle.thp_worker.specs.contracts.reply.AnswerEq.TheImpl.Laws as answer_laws
 use Rattle.thp_worker.specs.contracts.reply.AnswerPartialEq.TheImpl as answer_eq
@@ -25,7 +24,7 @@ abbrev pub same_section : SectionList → SectionList → Bool
 same_section = eq_of_both (on (λ s. s.worker) nat_eq) (on (λ s. s.answers) (pointwise same_answer))
 
 abbrev pub same_worked : WorkedList → WorkedList → Bool
-same_worked = eq_of_both (eq_of_both (on (λ w. w.answers) (pointwise same_answer)) (on (λ w. w.rest) (option_eq same_rest))) (on (λ w. w.opened) (pointwise beq))
+same_worked = eq_of_both (on (λ w. w.answers) (pointwise same_answer)) (on (λ w. w.rest) (option_eq same_rest))
 
 pub same_section-equiv : IsEquivalence same_section
 same_section-equiv = and_equiv (on_equiv (λ s. s.worker) nat_eq_equiv) (on_equiv (λ s. s.answers) (lists_equiv answer_laws.laws-law))
@@ -35,7 +34,7 @@ same_section-partial_equiv = partial_equiv_from_equiv same_section-equiv
 
 pub same_worked-equiv : IsEquivalence same_worked
 same_worked-equiv =
-    and_equiv (and_equiv (on_equiv (λ w. w.answers) (lists_equiv answer_laws.laws-law)) (on_equiv (λ w. w.rest) (options_equiv rest_laws.laws-law))) (on_equiv (λ w. w.opened) (lists_equiv bool_eq_equiv))
+    and_equiv (on_equiv (λ w. w.answers) (lists_equiv answer_laws.laws-law)) (on_equiv (λ w. w.rest) (options_equiv rest_laws.laws-law))
 
 pub same_worked-partial_equiv : IsPartialEquivalence same_worked
 same_worked-partial_equiv = partial_equiv_from_equiv same_worked-equiv

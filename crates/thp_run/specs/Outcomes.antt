@@ -17,7 +17,7 @@ use Rattle.thp_run.specs.Choices.{HasBadOrders, HasOnlyBadThresholds, IsSettings
 use Rattle.thp_run.specs.Programs.{RunEnds}
 
 -- the run that a line requests ended like this
-pub record Runs (line : Line) (input : Source) (output : Device) (result : Result (Unit {0}) RunFault) : Type 0 where
+pub record Runs (line : Line) (input : Source) (output : Device) (result : Result (Unit {0}) (RunFault ℕ)) : Type 0 where
   pub asked : line.check ≡ false
   pub settings : Settings
   pub settings_are : IsSettingsOf line settings
@@ -26,7 +26,7 @@ pub record Runs (line : Line) (input : Source) (output : Device) (result : Resul
   pub writes : WritesAnswer result output.failed output.called output.calls
 
 -- the check that a line requests ended like this
-pub record Checks (line : Line) (input : Source) (output : Device) (result : Result Bool RunFault) : Type 0 where
+pub record Checks (line : Line) (input : Source) (output : Device) (result : Result Bool (RunFault ℕ)) : Type 0 where
   pub asked : line.check ≡ true
   pub ends : CheckEnds input.bytes output.before output.after input.failed output.failed result
   pub reads : ReadsOn max_input input.failed input.called input.calls

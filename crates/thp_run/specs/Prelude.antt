@@ -9,3 +9,4 @@ pub use Rattle.thp_run.specs.Runs.{IsRun}
 pub use Rattle.thp_run.specs.Sections.{SectionAnswersAre}
 pub use Rattle.thp_run.specs.Sharing.{AreFew, IsFresh, RunsOn}
 pub use Rattle.thp_run.specs.Written.{Wrote}
+pub use Rattle.thp_worker.specs.Prelude.{Fronts, Goes, HasNoBatch, HoldsAllCallers, HoldsCaller, IsCommandFor, IsStep, StepDone}

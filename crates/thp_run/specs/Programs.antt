@@ -5,7 +5,7 @@ use Rattle.thp_run.specs.Reports.{report_of, told_of}
 use Rattle.thp_run.specs.NewNodes.{histories_of, shapes_of, AreNodesFor}
 use Rattle.thp_run.specs.Runs.{IsRun}
 use Rattle.thp_worker.specs.declared.reply.SectionLog.{SectionLog}
-use Rattle.thp_script.specs.declared.script.Script.{Script}
+use Rattle.thp_script.specs.declared.script.ScriptSections.{ScriptSections}
 use Rattle.thp_script.specs.declared.settings.Settings.{Settings}
 use Rattle.thp_script.specs.Prelude.{script_of}
 use Rattle.thp_cli.specs.declared.fault.RunFault.{RunFault}
@@ -13,7 +13,7 @@ use Rattle.thp_cli.specs.Prelude.{Ends}
 
 -- the text is the report that the settings select, of a run of the input's script
 pub record IsReport (s : Settings) (input text : List ℕ) : Type 0 where
-  pub script : Script
+  pub script : ScriptSections
   pub spelled : script_of s input ≡ Ok script
   pub nodes : List NodeState
   pub nodes_are : AreNodesFor s nodes
@@ -22,5 +22,5 @@ pub record IsReport (s : Settings) (input text : List ℕ) : Type 0 where
   pub written : text ≡ report_of s.report (map told_of nodes) sections
 
 -- how a run ends: with its report, or with the first error of the script
-abbrev pub RunEnds : Settings → Option (List ℕ) → Option (List ℕ) → Option (List ℕ) → Bool → Bool → Result (Unit {0}) RunFault → Type 0
+abbrev pub RunEnds : Settings → Option (List ℕ) → Option (List ℕ) → Option (List ℕ) → Bool → Bool → Result (Unit {0}) (RunFault ℕ) → Type 0
 RunEnds s = Ends (λ input _ text. IsReport s input text) (λ input fault. script_of s input ≡ Err fault)

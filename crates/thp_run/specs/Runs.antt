@@ -4,7 +4,7 @@ use Rattle.thp_history.specs.declared.events.Event.{Event}
 use Rattle.thp_history.specs.declared.shape.Shape.{Shape}
 use Rattle.thp_history.specs.Prelude.{History, events_of, IsLegal}
 use Rattle.thp_script.specs.declared.script.Command.{Command}
-use Rattle.thp_script.specs.declared.script.Script.{Script}
+use Rattle.thp_script.specs.declared.script.ScriptSections.{ScriptSections}
 use Rattle.thp_worker.specs.declared.reply.Answer.{Answer}
 use Rattle.thp_worker.specs.declared.reply.SectionLog.{SectionLog}
 use Rattle.thp_worker.specs.Prelude.{Open, Made, IsMade, ComesBefore, Carries, Turn, IsTurn, command_of, steps_of, own_events, batches_after, closing, answers_from}
@@ -39,7 +39,7 @@ pub record IsSection (nodes : ℕ) (shape : ℕ → Shape) (history : ℕ → Hi
   pub after_setup : 0 < c → All (IsAfterSetup history) (steps_of (turns ++ closed))
 
 -- the commands of the sections by number: `setup` is section 0, and the section of worker k is section k
-abbrev pub sections_of : Script → List (List Command)
+abbrev pub sections_of : ScriptSections → List (List Command)
 sections_of script = script.setup ∷ script.workers
 
 -- the answers are those of section k, executed by caller k
@@ -49,7 +49,7 @@ pub record IsAnswered (nodes : ℕ) (shape : ℕ → Shape) (history : ℕ → H
 
 -- A run of a script on so many nodes of these shapes results in these histories and these answers. Setup is executed by caller 0,
 -- before all others, and the section of worker k by caller k; no other caller does anything.
-pub record IsRun (nodes : ℕ) (shape : ℕ → Shape) (script : Script) (history : ℕ → History) (sections : List SectionLog) : Type 0 where
+pub record IsRun (nodes : ℕ) (shape : ℕ → Shape) (script : ScriptSections) (history : ℕ → History) (sections : List SectionLog) : Type 0 where
   pub legal : (n : ℕ) → IsLegal (shape n) (history n)
   pub count : length sections ≡ length (sections_of script)
   pub each : (k : ℕ) (commands : List Command) (section : SectionLog) → slice_get (sections_of script) k ≡ Some commands → slice_get sections k ≡ Some section → IsAnswered nodes shape history k commands section

@@ -13,7 +13,7 @@ use Rattle.thp_worker.specs.declared.reply.SectionOutcome.{SectionOutcome}
 use Rattle.thp_worker.specs.declared.reply.SectionLog.{SectionLog}
 use Rattle.thp_worker.specs.Prelude.{Fronts, Goes, HoldsAllCallers, HoldsCaller, DidFirst, fronts_in, Passes}
 use Rattle.thp_script.specs.declared.script.Command.{Command}
-use Rattle.thp_script.specs.declared.script.Script.{Script}
+use Rattle.thp_script.specs.declared.script.ScriptSections.{ScriptSections}
 use Rattle.thp_script.specs.declared.settings.Report.TheVariants.{Answers}
 use Rattle.thp_script.specs.declared.settings.Settings.{Settings}
 use Rattle.thp_script.specs.Prelude.{after_setup, read_after, spelled_with, ReadSoFar, script_of, Fault, IsInputOf}
@@ -35,8 +35,8 @@ pub record HasRead (script : ReadSoFar) (passes : Passes) (setup : SectionOutcom
   pub answers : setup'.answers.are ≡ setup.answers.are
 
 -- the rest of a script was read and executed, after these commands of its `setup`
-pub record RunsOnRest (old : List PassState) (read : Result Script Fault) (before : List Command) (new : List PassState) (sections : List SectionLog) : Type 0 where
-  pub rest : Script
+pub record RunsOnRest (old : List PassState) (read : Result ScriptSections Fault) (before : List Command) (new : List PassState) (sections : List SectionLog) : Type 0 where
+  pub rest : ScriptSections
   pub is : read ≡ Ok rest
   pub runs : RunsOn old new (after_setup before rest) sections
 
@@ -44,7 +44,7 @@ pub record RunsOnRest (old : List PassState) (read : Result Script Fault) (befor
 pub record RunsInput (s : Settings) (input : Option (List ℕ)) (old new : List PassState) (sections : List SectionLog) : Type 0 where
   pub bytes : List ℕ
   pub read : IfSome input (IsInputOf bytes)
-  pub script : Script
+  pub script : ScriptSections
   pub spelled : script_of s bytes ≡ Ok script
   pub runs : RunsOn old new script sections
   pub kept : s.report ≡ Answers → All (SectionAnswersAre Kept) sections
@@ -53,7 +53,7 @@ pub record RunsInput (s : Settings) (input : Option (List ℕ)) (old new : List 
 pub record HasRun (s : Settings) (input : Option (List ℕ)) (nodes : List NodeState) (sections : List SectionLog) : Type 0 where
   pub bytes : List ℕ
   pub read : IfSome input (IsInputOf bytes)
-  pub script : Script
+  pub script : ScriptSections
   pub spelled : script_of s bytes ≡ Ok script
   pub nodes_are : AreNodesFor s nodes
   pub is_run : IsRun s.nodes (shapes_of nodes) script (histories_of nodes) sections
@@ -66,7 +66,7 @@ pub record HasFault (s : Settings) (input : Option (List ℕ)) (fault : Fault) :
   pub told : script_of s bytes ≡ Err fault
 
 -- why no script was run: a failed read sets the reader's flag, and nothing else does
-abbrev pub EndsBeforeRun : Settings → Option (List ℕ) → Bool → RunFault → Type 0
+abbrev pub EndsBeforeRun : Settings → Option (List ℕ) → Bool → RunFault ℕ → Type 0
 EndsBeforeRun s input failed (Text line kind) = (failed ≡ false) × HasFault s input (line, kind)
 EndsBeforeRun s input failed OutOfMemory = failed ≡ false
 EndsBeforeRun s input failed Read = failed ≡ true

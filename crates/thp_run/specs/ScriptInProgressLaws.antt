@@ -6,15 +6,15 @@ use Rattle.thp_worker.specs.declared.reply.SectionOutcome.{SectionOutcome}
 use Rattle.thp_worker.specs.Prelude.{DidFirst, fronts_in, Passes}
 use Rattle.thp_worker.proofs.StepLaws.{goes_refl, goes_trans}
 use Rattle.thp_script.specs.declared.script.Command.{Command}
-use Rattle.thp_script.specs.declared.script.Script.{Script}
+use Rattle.thp_script.specs.declared.script.ScriptSections.{ScriptSections}
 use Rattle.thp_script.specs.Prelude.{read_after, spelled_with, ReadSoFar, Fault}
 use Rattle.thp_run.specs.ScriptInProgress.{HasRead}
 
-pub after_none : (read : Result Script Fault) → read ≡ read_after [] read
+pub after_none : (read : Result ScriptSections Fault) → read ≡ read_after [] read
 after_none (Ok script) = refl
 after_none (Err fault) = refl
 
-pub after_more : (front more : List Command) (read : Result Script Fault) → read_after front (read_after more read) ≡ read_after (front ++ more) read
+pub after_more : (front more : List Command) (read : Result ScriptSections Fault) → read_after front (read_after more read) ≡ read_after (front ++ more) read
 after_more front more (Ok script) = ap (λ setup. Ok (record { setup = setup; workers = script.workers })) (sym (append_assoc front more script.setup))
 after_more front more (Err fault) = refl
 

@@ -2,7 +2,7 @@
 use Rattle.std.specs.Prelude.{◌≡◌, ℕ, ◌+◌, ◌<◌, ◌≤◌, List, [], ◌∷◌, ◌++◌, All, None, length}
 use Rattle.thp_history.specs.Prelude.{History, IsLegal}
 use Rattle.thp_script.specs.declared.script.Command.{Command}
-use Rattle.thp_script.specs.declared.script.Script.{Script}
+use Rattle.thp_script.specs.declared.script.ScriptSections.{ScriptSections}
 use Rattle.thp_script.specs.Prelude.{max_workers}
 use Rattle.thp_worker.specs.declared.answer_log.Answers.{Answers}
 use Rattle.thp_worker.specs.declared.reply.SectionLog.{SectionLog}
@@ -18,7 +18,7 @@ pub record IsNew (workers : ℕ) (f : Fronts) : Type 0 where
   pub callers : f.callers ≡ 1 + workers
 
 -- a script for so many nodes, with at least one worker and at most the greatest number
-pub record IsFitScript (nodes : ℕ) (script : Script) : Type 0 where
+pub record IsFitScript (nodes : ℕ) (script : ScriptSections) : Type 0 where
   pub setup : IsSection nodes script.setup
   pub workers : All (IsSection nodes) script.workers
   pub some : 0 < length script.workers
@@ -50,7 +50,7 @@ InOrder _ _ _ _ _ _ = ⊥
 
 -- the whole of setup was executed, and then the workers' sections: concurrently, followed by the postponed commands, workers in
 -- ascending order
-pub record RunsTo (old new : Fronts) (script : Script) (sections : List SectionLog) : Type 0 where
+pub record RunsTo (old new : Fronts) (script : ScriptSections) (sections : List SectionLog) : Type 0 where
   pub between : Fronts
   pub setup : SectionOutcome
   pub workers : List SectionOutcome

@@ -5,7 +5,7 @@ use Rattle.thp_history.specs.declared.shape.Shape.{Shape}
 use Rattle.thp_history.specs.Prelude.{History}
 use Rattle.thp_node.specs.Prelude.{NodeState}
 use Rattle.thp_cell.specs.Prelude.{AllBelow, PassState}
-use Rattle.thp_script.specs.declared.script.Script.{Script}
+use Rattle.thp_script.specs.declared.script.ScriptSections.{ScriptSections}
 use Rattle.thp_worker.specs.declared.reply.SectionLog.{SectionLog}
 use Rattle.thp_worker.specs.Prelude.{Fronts, Held, batch_of}
 use Rattle.thp_run.specs.Sections.{IsNew, RunsTo}
@@ -34,7 +34,7 @@ pub record IsFresh (callers : ℕ) (p : PassState) : Type 0 where
   pub front : p.front ≡ []
 
 -- each section has few commands
-pub record AreFew (script : Script) : Type 0 where
+pub record AreFew (script : ScriptSections) : Type 0 where
   pub setup : length script.setup < 2 ^ 32
   pub workers : All (λ commands. length commands < 2 ^ 32) script.workers
 
@@ -58,7 +58,7 @@ front_at (Some p) = p.front
 front_at None = []
 
 -- a script was run with passes that knew of no event, and these are the passes after it
-pub record RunsOn (old new : List PassState) (script : Script) (sections : List SectionLog) : Type 0 where
+pub record RunsOn (old new : List PassState) (script : ScriptSections) (sections : List SectionLog) : Type 0 where
   pub before : Fronts
   pub after : Fronts
   pub starts : IsNew (length script.workers) before

@@ -11,7 +11,8 @@
 //! - `report`, `answers`: a report as text, a function of the nodes' shapes and histories and of the sections' answers:
 //!   `report_of` (`Reports`), over `Answers`, and `Totals` and `Journals` of `thp_journal_writer`. No block appears in it (`Laws`).
 //!   `AnswerParts` (`Parts`, proof `PartLaws`): the answers part by part from one buffer; `line_room` bounds a line.
-//! - `checking` (`Checks`): the check of a journal. `listed` (`Listed`): sections with their answers in vectors.
+//! - `checking` (`Checks`): the check of a journal. `listed` (`Listed`): sections with their answers in vectors. `values`: scripts
+//!   and journals in vectors.
 //!
 //! It re-exports what a library user of scripts, journals and reports needs.
 #![tactic(auto)]
@@ -24,6 +25,7 @@ mod report;
 mod running;
 mod script_in_progress;
 mod script_run;
+mod values;
 
 pub use answers::{AnswerParts, answers_text};
 pub use checking::check_run;
@@ -34,12 +36,10 @@ pub use running::run;
 pub use script_run::{RunResult, run_script};
 pub use thp_cli::{Ending, Line, ProgramFault, RunFault, Watched, WordsFault, read_line, words_of};
 pub use thp_history::{Gain, Loss, PageCall, PageId, Refusal, Shape};
-pub use thp_journal_reader::{Journals, NodeJournal, check_text, read_journal};
+pub use thp_journal_reader::check_text;
 pub use thp_node::{BackReply, Done, Node, ScanReply, Tried};
 pub use thp_script::{
-    Command, MAX_INPUT, Op, ReadFault, Report, Script, Sequence, Settings, TextKind, read_orders,
-    read_script, read_underused,
+    Command, MAX_INPUT, Op, ReadFault, Report, Settings, TextKind, read_orders, read_underused,
 };
-pub use thp_worker::{
-    Answer, Gate, NoGate, NodePass, NodePasses, Passes, Reply, Rest, Step, Steps, run_range,
-};
+pub use thp_worker::{Answer, Gate, NoGate, Reply, Rest, Step, Steps};
+pub use values::{Journals, NodeJournal, Script, read_journal, read_script};

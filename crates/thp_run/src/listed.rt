@@ -1,8 +1,9 @@
 //! Sections whose answers are stored in vectors: the calls of `thp_worker` and of `report`, whose logs store answers in less memory
 //! or only count them, for callers that need all answers as values.
-ghost use Rattle.std.specs.Prelude.{◌≡◌, ◌+◌, ◌<◌, ◌≤◌, ◌^◌, ◌++◌, ◌∷◌, [], All, IfOk, OnOk, Some, length, map, slice_get};
+ghost use Rattle.std.specs.Prelude.{◌≡◌, ◌+◌, ◌<◌, ◌≤◌, ◌^◌, ◌++◌, ◌∷◌, [], All, IfOk, OnOk, Some, false, length, map, replicate, slice_get};
+ghost use Rattle.thp_run.specs.Listed.{left_open, open_at, stays_open, to_put_back, without_first};
 ghost use Rattle.thp_run.specs.Prelude.{IsWhole, WorksOn, report_of, section_of, sections_of, told_of};
-ghost use Rattle.thp_worker.specs.Prelude.{Fronts, Goes, HoldsAllCallers, HoldsCaller, HasNoBatch, IsCommandFor, stored};
+ghost use Rattle.thp_worker.specs.Prelude.{Fronts, Goes, HoldsAllCallers, HoldsCaller, HasNoBatch, IsCommandFor, marked, stored};
 ghost use Rattle.thp_worker.specs.declared.answer_log.Answers.TheVariants.{Kept};
 ghost use Rattle.thp_worker.specs.declared.reply.Answer.{Answer as StoredAnswer};
 
@@ -11,7 +12,7 @@ use std::alloc::{AllocError, Global};
 use std::marker::Model;
 use thp_history::Refusal;
 use thp_node::{Node, Tried};
-use thp_script::{Command, Settings};
+use thp_script::{Command, Op, Settings};
 use thp_worker::{
     Answer, AnswerLog, Answers, Gate, Reply, Rest, SectionLog, SectionOutcome, Steps,
 };
@@ -23,8 +24,6 @@ pub struct Worked {
     pub answers: Vec<Answer>,
     /// Where the section stopped; `None` if it was finished.
     pub rest: Option<Rest>,
-    /// For each node, whether a batch that the section's commands opened there is still open.
-    pub opened: Vec<bool>,
 }
 
 impl Model for Worked {
@@ -32,7 +31,7 @@ impl Model for Worked {
 
     ghost Value = { WorkedList };
 
-    ghost view = { λ w. record { answers = w.answers.items; rest = w.rest; opened = w.opened.items } };
+    ghost view = { λ w. record { answers = w.answers.items; rest = w.rest } };
 }
 
 impl PartialEq for Worked {
@@ -43,7 +42,7 @@ impl PartialEq for Worked {
     ghost laws = { same_worked-partial_equiv };
 
     fn eq(&self, other: &Worked) -> bool {
-        self.answers == other.answers && self.rest == other.rest && self.opened == other.opened
+        self.answers == other.answers && self.rest == other.rest
     }
 }
 
@@ -128,17 +127,17 @@ pub fn work_rest<S: Steps>(
     ensures works { (old : Fronts) → WorksOn worker old (S.fronts steps.old) commands.now worked → IfOk result (WorksOn worker old (S.fronts steps.new) commands.now) }
     ensures done { HoldsAllCallers (S.fronts steps.old) → IfOk result IsWhole }
 {
-    let Worked {
-        answers,
-        rest,
-        opened,
-    } = worked;
+    let Some(rest) = worked.rest else {
+        return Ok(worked);
+    };
+    let answers = worked.answers.as_slice();
+    let opened = open_at(alloc, steps.nodes(), commands, answers, &rest)?;
     let room = commands.len().max(answers.len());
     let list = Vec::with_capacity(alloc, room)?;
-    let log = to_log(alloc, room, answers.as_slice())?;
+    let log = to_log(alloc, room, answers)?;
     let begun = SectionOutcome {
         answers: log,
-        rest,
+        rest: Some(rest),
         opened,
     };
     let worked = thp_worker::work_rest(commands, worker, begun, steps)?;
@@ -173,7 +172,6 @@ fn list_answers(mut list: Vec<Answer>, worked: SectionOutcome) -> Result<Worked,
     requires kept { worked.answers.are ≡ Kept }
     ensures answers { IfOk result (λ list. list.answers ≡ worked.answers.items) }
     ensures rest { IfOk result (λ list. list.rest ≡ worked.rest) }
-    ensures opened { IfOk result (λ list. list.opened ≡ worked.opened.items) }
 {
     // the toolchain finds these types, which answers contain, only in functions that name them
     let _in_answers = (Reply::Tried(Tried::Done), Refusal::NoPage);
@@ -186,8 +184,88 @@ fn list_answers(mut list: Vec<Answer>, worked: SectionOutcome) -> Result<Worked,
     Ok(Worked {
         answers: list,
         rest: worked.rest,
-        opened: worked.opened,
     })
+}
+
+/// Returns, for each node, whether a batch is open there when a section stopped: by the answers to its commands, and by the number
+/// of put backs made at its end.
+fn open_at(
+    alloc: Global,
+    nodes: u32,
+    commands: &[Command],
+    answers: &[Answer],
+    rest: &Rest,
+) -> Result<Vec<bool>, AllocError>
+    requires { All (IsCommandFor nodes) commands.now }
+    ensures { IfOk result (λ opened. opened.items ≡ open_at nodes commands.now answers.now rest.now) }
+{
+    let opened = left_open(alloc, nodes, commands, answers)?;
+    let back = if rest.command as usize == commands.len() {
+        rest.steps
+    } else {
+        0
+    };
+    without_first(alloc, back, opened.as_slice())
+}
+
+/// Returns, for each node, whether a batch is open there after commands with these answers.
+fn left_open(
+    alloc: Global,
+    nodes: u32,
+    commands: &[Command],
+    answers: &[Answer],
+) -> Result<Vec<bool>, AllocError>
+    requires { All (IsCommandFor nodes) commands.now }
+    ensures { IfOk result (λ opened. opened.items ≡ left_open (replicate nodes false) commands.now answers.now) }
+{
+    let mut opened = vec![in alloc; false; nodes as usize]?;
+    for place in 0..commands.len().min(answers.len()) {
+        mark_open(&mut opened, &commands[place], &answers[place]);
+    }
+    Ok(opened)
+}
+
+/// Records whether a command with this answer leaves a batch open on its node.
+fn mark_open(opened: &mut Vec<bool>, command: &Command, answer: &Answer)
+    requires { command.now.node < length opened.old.items }
+    ensures { opened.new.items ≡ marked opened.old.items command.now answer.now.reply }
+{
+    match command.op {
+        Op::Take { .. } if answer.reply.is_ok() => opened[command.node as usize] = true,
+        Op::PutBack => opened[command.node as usize] = false,
+        _ => {}
+    }
+}
+
+/// Returns, for each node, whether a batch is open there after the first `back` of them were put back.
+fn without_first(alloc: Global, back: u32, opened: &[bool]) -> Result<Vec<bool>, AllocError>
+    ensures { IfOk result (λ left. left.items ≡ without_first back opened.now) }
+{
+    let mut left = back;
+    let mut still_open = Vec::new(alloc);
+    for open_here in opened {
+        still_open.push(stays_open(*open_here, left))?;
+        left = to_put_back(*open_here, left);
+    }
+    Ok(still_open)
+}
+
+/// Returns whether a batch stays open, before which `back` open batches are still to be put back.
+fn stays_open(open_here: bool, back: u32) -> bool
+    ensures { result ≡ stays_open open_here back }
+{
+    open_here && back == 0
+}
+
+/// Returns how many open batches are still to be put back, after a node on which one is open, or none.
+fn to_put_back(open_here: bool, back: u32) -> u32
+    ensures { result ≡ to_put_back open_here back }
+{
+    if open_here {
+        back.saturating_sub(1)
+    } else {
+        back
+    }
 }
 
 /// Returns a log that stores these answers, with room for `room` in all.

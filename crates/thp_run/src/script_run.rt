@@ -8,18 +8,19 @@ ghost use Rattle.thp_worker.specs.Prelude.{Agree, AllWork, AnswersAre, Fronts, H
 ghost use Rattle.thp_script.specs.Prelude.{after_setup, max_workers, IsScriptFor};
 ghost use Rattle.thp_script.specs.declared.script.Command.{Command};
 ghost use Rattle.atomic_table.specs.Seated.{TableId};
-ghost use Rattle.thp_script.specs.declared.script.Script.{Script};
+ghost use Rattle.thp_script.specs.declared.script.ScriptSections.{ScriptSections};
 ghost use Rattle.thp_run.specs.Prelude.{AreFew, AreNew, AreNodesFor, HasBegun, IsFresh, IsRun, RunsOn, SectionAnswersAre, histories_of, shapes_of};
 ghost use Rattle.thp_run.specs.NewNodes.{shape_of};
 ghost use Rattle.thp_run.specs.Sharing.{pass_of};
 ghost use Rattle.thp_run.specs.Sections.{numbered, GoesFrom, InOrder, IsSetUp, RunsTo};
 
+use crate::values::{Script, sections_of_script};
 use std::alloc::{AllocError, Global};
 use std::thread::Threads;
 use thp_cell::{NodeCell, Pass};
 use thp_history::Shape;
 use thp_node::{FullLog, Node, Recorder};
-use thp_script::{Command, Report, Script, Sequence, Settings};
+use thp_script::{Command, Report, ScriptSections, Sequence, Settings};
 use thp_worker::{
     Answers, Gate, NodePass, NodePasses, Passes, SectionLog, SectionOutcome, Steps, begin_section,
     do_commands, end_section, run_range, work_rest,
@@ -52,10 +53,11 @@ pub fn run_script<R: Threads + Sync, G: Gate + Sync>(
     ensures counted { (settings.now.report ≡ Report.Answers → ⊥) → IfOk result (λ r. All (SectionAnswersAre Answers.Counted) r.sections.items) }
     ensures run { IfOk result (λ r. IsRun settings.now.nodes (shapes_of r.nodes.items) script (histories_of r.nodes.items) r.sections.items) }
 {
+    let sections = sections_of_script(alloc, script)?;
     let (cells, passes) = new_cells(alloc, settings)?;
     let (passes, setup) = begin_run(alloc, settings, cells.as_slice(), passes)?;
-    let (passes, sections) = end_run(rt, alloc, settings, passes, setup, script, gate)?;
-    take_apart(alloc, settings, cells, passes, sections)
+    let (passes, logs) = end_run(rt, alloc, settings, passes, setup, sections, gate)?;
+    take_apart(alloc, settings, cells, passes, logs)
 }
 
 /// Creates the nodes that the settings describe, which record their events in an `N`, each in a cell, and the passes that have all
@@ -129,7 +131,7 @@ pub fn end_run<'a, R: Threads + Sync, N: Recorder + Send, G: Gate + Sync>(
     settings: &Settings,
     mut passes: NodePasses<'a, N>,
     setup: SectionOutcome,
-    script: Script,
+    script: ScriptSections,
     gate: &G,
 ) -> Result<(Vec<Pass<N>>, Vec<SectionLog>), AllocError>
     requires script { IsScriptFor settings.now script }
@@ -173,9 +175,9 @@ pub fn take_apart<N: Recorder>(
     passes: Vec<Pass<N>>,
     sections: Vec<SectionLog>,
 ) -> Result<RunResult<N>, AllocError>
-    requires ran { (old : List PassState) × (script : Script) × AreNew settings.now cells.items old × RunsOn old passes.items script sections.items }
+    requires ran { (old : List PassState) × (script : ScriptSections) × AreNew settings.now cells.items old × RunsOn old passes.items script sections.items }
     ensures nodes { IfOk result (λ r. AreNodesFor settings.now r.nodes.items) }
-    ensures run { (old : List PassState) (script : Script) → AreNew settings.now cells.items old → RunsOn old passes.items script sections.items → IfOk result (λ r. IsRun settings.now.nodes (shapes_of r.nodes.items) script (histories_of r.nodes.items) r.sections.items) }
+    ensures run { (old : List PassState) (script : ScriptSections) → AreNew settings.now cells.items old → RunsOn old passes.items script sections.items → IfOk result (λ r. IsRun settings.now.nodes (shapes_of r.nodes.items) script (histories_of r.nodes.items) r.sections.items) }
     ensures sections { IfOk result (λ r. r.sections.items ≡ sections.items) }
 {
     let mut nodes = Vec::new(alloc);
@@ -201,7 +203,7 @@ fn answers_for(report: Report) -> Answers
 }
 
 /// Returns whether each section has fewer than 2^32 commands.
-fn are_few(script: &Script) -> bool
+fn are_few(script: &ScriptSections) -> bool
     ensures { IsTrue result ↔ AreFew script.now }
 {
     let most = u32::MAX as usize;

@@ -1,6 +1,6 @@
 -- The commands of `setup` that are let go while a script is read stand at the front of what is read.
 use Rattle.std.proofs.Common.{◌≡◌, ◌∙◌, ◌<◌, ℕ, zero, suc, List, [], ◌∷◌, ◌++◌, length, get_or, set, Option, Result, Ok, refl, sym, ap, append_assoc, arith, slice_set, append-nil}
-use Rattle.thp_script.specs.Prelude.{Command, Script, Settings, after_setup, lines_spell, read_after, script_in, spelled_with, with_commands, ◌>>=◌, commands_from, Fault, Placed, fault_with, unless, TextSoFar, Text, lines_of}
+use Rattle.thp_script.specs.Prelude.{Command, ScriptSections, Settings, after_setup, lines_spell, read_after, script_in, spelled_with, with_commands, ◌>>=◌, commands_from, Fault, Placed, fault_with, unless, TextSoFar, Text, lines_of}
 use Rattle.thp_script.specs.Parts.{setup_of}
 
 -- the commands of sections whose first begins with `front`
@@ -15,7 +15,7 @@ front_read : (front setup : List Command) (workers : List (List Command)) (read 
     → (read >>= λ ps. Ok (script_in (with_commands ((front ++ setup) ∷ workers) ps))) ≡ read_after front (read >>= λ ps. Ok (script_in (with_commands (setup ∷ workers) ps)))
 front_read front setup workers x = grind (arith, front_stays)
 
-front_told : (front : List Command) (fault : Option Fault) (one other : Result Script Fault) → one ≡ read_after front other → unless fault one ≡ read_after front (unless fault other)
+front_told : (front : List Command) (fault : Option Fault) (one other : Result ScriptSections Fault) → one ≡ read_after front other → unless fault one ≡ read_after front (unless fault other)
 front_told front x one other same = grind arith
 
 -- what is spelled once the commands of `setup` that were read are let go

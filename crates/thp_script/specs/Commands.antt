@@ -7,6 +7,7 @@ use Rattle.thp_script.specs.declared.script.Command.{Command}
 use Rattle.thp_script.specs.declared.script.Op.{Op}
 use Rattle.thp_script.specs.declared.script.Op.TheVariants.{Alloc, MapWhole, UnmapWhole, Map, Unmap, Write, Zero, SplitPmd, Pin, Unpin, Close, Scan, Count, Take, SplitNext, PutBack}
 use Rattle.thp_script.specs.declared.settings.Settings.{Settings}
+use Rattle.thp_script.specs.Limits.{max_operand}
 use Rattle.thp_script.specs.Readings.{◌>>=◌}
 use Rattle.thp_script.specs.Words.{Text, number_of}
 
@@ -54,8 +55,8 @@ range_command op s words = do
   word ← four_words words
   node ← node_number s word.0
   page ← number_up_to 18446744073709551615 word.1
-  first ← number_up_to 65535 word.2
-  count ← number_up_to 65535 word.3
+  first ← number_up_to max_operand word.2
+  count ← number_up_to max_operand word.3
   Ok (record { node = node; op = op page first count })
 
 -- a scan or a take: `NODE COUNT`

@@ -2,7 +2,7 @@
 use Rattle.std.specs.Prelude.{◌≡◌, ◌<◌, ◌+◌, ℕ, false, All, IfSome, List, ◌∷◌, [], ◌++◌, length, Option, Result, Ok}
 use Rattle.thp_script.specs.declared.fault.TextKind.{TextKind}
 use Rattle.thp_script.specs.declared.script.Command.{Command}
-use Rattle.thp_script.specs.declared.script.Script.{Script}
+use Rattle.thp_script.specs.declared.script.ScriptSections.{ScriptSections}
 use Rattle.thp_script.specs.declared.settings.Settings.{Settings}
 use Rattle.thp_script.specs.declared.statement.Statement.TheVariants.{Call}
 use Rattle.thp_script.specs.Commands.{IsCommandFor, Reading}
@@ -42,7 +42,7 @@ pub record IsName (s : Settings) (name : Text) (reading : Reading) : Type 0 wher
   pub reads : (words : List Text) → by_words s (name ∷ words) ≡ (reading s words >>= λ command. Ok (Call command))
 
 -- the result for the text read, the rest of a part and the text to follow
-abbrev pub spelled_after : Settings → List (List Command) → Option ℕ → TextSoFar → Text → Text → Result Script Fault
+abbrev pub spelled_after : Settings → List (List Command) → Option ℕ → TextSoFar → Text → Text → Result ScriptSections Fault
 spelled_after s sections section t rest more = told_after t more (lines_spell s sections section t.line (t.begun ++ (rest ++ more)))
 
 -- the invariant of a script that is being read while so much of a part is left

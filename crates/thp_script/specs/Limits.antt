@@ -17,3 +17,7 @@ max_input = 16777216
 -- the greatest number of bytes of a text whose bytes and lines are counted in 64 bits
 abbrev pub max_counted : ℕ
 max_counted = 2 ^ 64 - 2
+
+-- the greatest number that a text may give for the first subpage of a range, and for its count
+abbrev pub max_operand : ℕ
+max_operand = 65535

@@ -1,5 +1,5 @@
 -- The commands about one page: the page, and the call.
-use Rattle.std.specs.Prelude.{ℕ, min, Option, Some, None}
+use Rattle.std.specs.Prelude.{ℕ, Option, Some, None}
 use Rattle.thp_history.specs.declared.page_call.Gain.TheVariants as gain
 use Rattle.thp_history.specs.declared.page_call.Loss.TheVariants as loss
 use Rattle.thp_history.specs.declared.page_call.PageCall.{PageCall}
@@ -20,18 +20,14 @@ page_call_of (op.Pin page) = Some (page, Gain gain.Pin)
 page_call_of (op.Unpin page) = Some (page, Loss loss.Unpin)
 page_call_of o = None
 
--- a number of subpages as an operand of a command; no page has more than 512 subpages
-abbrev pub operand : ℕ → ℕ
-operand n = min n 65535
-
 -- the command of a call about one page
 abbrev pub page_op : PageCall → ℕ → Op
 page_op (Gain gain.MapWhole) page = op.MapWhole page
-page_op (Gain (gain.MapSub first count)) page = op.Map (operand first) (operand count) page
+page_op (Gain (gain.MapSub first count)) page = op.Map first count page
 page_op (Gain gain.SplitPmd) page = op.SplitPmd page
 page_op (Gain gain.Pin) page = op.Pin page
-page_op (Gain (gain.Write first count)) page = op.Write (operand first) (operand count) page
-page_op (Gain (gain.Zero first count)) page = op.Zero (operand first) (operand count) page
+page_op (Gain (gain.Write first count)) page = op.Write first count page
+page_op (Gain (gain.Zero first count)) page = op.Zero first count page
 page_op (Loss loss.UnmapWhole) page = op.UnmapWhole page
-page_op (Loss (loss.UnmapSub first count)) page = op.Unmap (operand first) (operand count) page
+page_op (Loss (loss.UnmapSub first count)) page = op.Unmap first count page
 page_op (Loss loss.Unpin) page = op.Unpin page

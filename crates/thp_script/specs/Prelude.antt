@@ -3,13 +3,13 @@ pub use Rattle.thp_script.specs.Commands.{FitsBatch, IsCommandFor, Reading, comm
 unfoldable pub use Rattle.thp_script.specs.Commands.{batch_command, command_of, node_command, page_command, range_command}
 pub use Rattle.thp_script.specs.FastParsing.{FastCommand, FastLine, FastOperands, IsName, IsPartRead, spelled_after}
 pub use Rattle.thp_script.specs.FastWords.{FastNumber}
-pub use Rattle.thp_script.specs.Limits.{max_counted, max_input, max_nodes, max_workers}
+pub use Rattle.thp_script.specs.Limits.{max_counted, max_input, max_nodes, max_operand, max_workers}
 pub use Rattle.thp_script.specs.Lines.{fault_of_line, is_empty, is_printable}
 unfoldable pub use Rattle.thp_script.specs.Lines.{fault_after}
 pub use Rattle.thp_script.specs.NumberLists.{IsListText, IsWritable, all_read, in_front, items_of, order_of, orders_in, threshold_of, threshold_text, thresholds_in}
 unfoldable pub use Rattle.thp_script.specs.NumberLists.{list_in}
 pub use Rattle.thp_script.specs.Operands.{Names, batch_op, range_op, reading_of}
-pub use Rattle.thp_script.specs.PageCommands.{operand, page_call_of, page_op}
+pub use Rattle.thp_script.specs.PageCommands.{page_call_of, page_op}
 pub use Rattle.thp_script.specs.Parts.{ReadSoFar, after_setup, read_after, script_in, setup_of, spelled_with, with_commands}
 unfoldable pub use Rattle.thp_script.specs.Parts.{lines_spell}
 pub use Rattle.thp_script.specs.Readings.{◌>>=◌}
@@ -29,7 +29,7 @@ pub use Rattle.thp_script.specs.declared.script.Command.{Command}
 pub use Rattle.thp_script.specs.declared.script.CommandWord.{CommandWord}
 pub use Rattle.thp_script.specs.declared.script.CommandWord.TheVariants.{OfBatch, OfNode, OfPage, OfRange}
 pub use Rattle.thp_script.specs.declared.script.Op.{Op}
-pub use Rattle.thp_script.specs.declared.script.Script.{Script}
+pub use Rattle.thp_script.specs.declared.script.ScriptSections.{ScriptSections}
 pub use Rattle.thp_script.specs.declared.settings.Settings.{Settings}
 pub use Rattle.thp_script.specs.declared.statement.Statement.{Statement}
 pub use Rattle.thp_script.specs.declared.statement.Statement.TheVariants.{Call, Nothing, Section}

@@ -6,7 +6,7 @@ use Rattle.thp_script.specs.declared.fault.TextKind.TheVariants.{TooLong}
 use Rattle.thp_script.specs.declared.fault.ReadFault.{ReadFault}
 use Rattle.thp_script.specs.declared.fault.ReadFault.TheVariants.{Text as TextFault, OutOfMemory}
 use Rattle.thp_script.specs.declared.script.Command.{Command}
-use Rattle.thp_script.specs.declared.script.Script.{Script}
+use Rattle.thp_script.specs.declared.script.ScriptSections.{ScriptSections}
 use Rattle.thp_script.specs.declared.settings.Settings.{Settings}
 use Rattle.thp_script.specs.declared.statement.Statement.{Statement}
 use Rattle.thp_script.specs.declared.statement.Statement.TheVariants.{Nothing, Section, Call}
@@ -55,11 +55,11 @@ commands_in k [] = []
 commands_in k (p ∷ ps) = if p.0 == k then p.1 ∷ commands_in k ps else commands_in k ps
 
 -- the script of these commands: section 0 is `setup`, and there is one section for each worker
-unfoldable pub script_with : ℕ → List Placed → Script
+unfoldable pub script_with : ℕ → List Placed → ScriptSections
 script_with workers ps = record { setup = commands_in 0 ps; workers = map (λ k. commands_in k ps) (range_with_len 1 workers) }
 
 -- the script in a text, or its first error
-unfoldable pub script_of : Settings → Text → Result Script Fault
+unfoldable pub script_of : Settings → Text → Result ScriptSections Fault
 script_of s text =
     if nat_lt max_input (length text) then Err (0, TooLong)
     else (commands_from s 1 None (lines_of text) >>= λ ps. Ok (script_with s.workers ps))
@@ -70,7 +70,7 @@ ReportsFault read (TextFault line kind) = read ≡ Err (line, kind)
 ReportsFault read OutOfMemory = ⊤
 
 -- each command is for an existing node, and there is a section for each worker
-pub record IsScriptFor (s : Settings) (script : Script) : Type 0 where
+pub record IsScriptFor (s : Settings) (script : ScriptSections) : Type 0 where
   pub setup_commands : All (IsCommandFor s.nodes) script.setup
   pub worker_commands : All (λ commands. All (IsCommandFor s.nodes) commands) script.workers
   pub sections : length script.workers ≡ s.workers

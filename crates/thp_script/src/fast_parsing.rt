@@ -4,9 +4,10 @@ ghost use Rattle.std.specs.Prelude.{IfSome};
 ghost use Rattle.thp_script.specs.Prelude.{FastOperands, reading_of};
 
 use crate::fast_words::parse_number_fast;
+use crate::limits::MAX_OPERAND;
 use crate::script::{Command, CommandWord, Op};
 use crate::settings::Settings;
-use thp_history::MAX_BATCH;
+use thp_history::{MAX_BATCH, PageId};
 
 /// Parses the operands of a command, and returns it with the text after the line.
 #[inline(always)]
@@ -28,23 +29,23 @@ pub(crate) fn parse_operands_fast<'t>(
             let (node, rest) = parse_number_fast(b' ', most, text)?;
             let (page, rest) = parse_number_fast(b'\n', u64::MAX, rest)?;
             let node = node as u32;
-            let op = Op::of_page(page, call);
+            let op = Op::of_page(PageId(page), call);
             Some((Command { node, op }, rest))
         }
         CommandWord::OfRange(call) => {
             let (node, rest) = parse_number_fast(b' ', most, text)?;
             let (page, rest) = parse_number_fast(b' ', u64::MAX, rest)?;
-            let (first, rest) = parse_number_fast(b' ', u64::from(u16::MAX), rest)?;
-            let (count, rest) = parse_number_fast(b'\n', u64::from(u16::MAX), rest)?;
+            let (first, rest) = parse_number_fast(b' ', MAX_OPERAND, rest)?;
+            let (count, rest) = parse_number_fast(b'\n', MAX_OPERAND, rest)?;
             let node = node as u32;
-            let op = call.op(page, first as u16, count as u16);
+            let op = call.op(PageId(page), first as u32, count as u32);
             Some((Command { node, op }, rest))
         }
         CommandWord::OfBatch(call) => {
             let (node, rest) = parse_number_fast(b' ', most, text)?;
             let (count, rest) = parse_number_fast(b'\n', MAX_BATCH as u64, rest)?;
             let node = node as u32;
-            let op = call.op(count as u16);
+            let op = call.op(count as u32);
             Some((Command { node, op }, rest))
         }
     }

@@ -29,12 +29,14 @@ mod words;
 
 pub use fast_words::{after_name, parse_number_fast};
 pub use fault::{LongReadFault, ReadFault, TextFault, TextKind};
-pub use limits::{MAX_COUNTED, MAX_INPUT, MAX_NODES, MAX_WORKERS, run_limits_are_defined};
+pub use limits::{
+    MAX_COUNTED, MAX_INPUT, MAX_NODES, MAX_OPERAND, MAX_WORKERS, run_limits_are_defined,
+};
 pub use lines::{fault_after, fault_of_line, has_empty_word, is_printable};
 pub use lists::{read_orders, read_underused};
 pub use operands::one_word;
 pub use reads_parts::ReadsParts;
-pub use script::{Command, Op, Script};
+pub use script::{Command, Op, ScriptSections};
 pub use script_reader::{ScriptReader, read_script};
 pub use sequence::Sequence;
 pub use settings::{Report, Settings};

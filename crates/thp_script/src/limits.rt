@@ -1,6 +1,6 @@
 //! The limits of a run and of its texts (this project's profile).
 ghost use Rattle.std.specs.Prelude.{◌≡◌};
-ghost use Rattle.thp_script.specs.Limits.{max_counted, max_input, max_nodes, max_workers};
+ghost use Rattle.thp_script.specs.Limits.{max_counted, max_input, max_nodes, max_operand, max_workers};
 
 use thp_history::MAX_CALLERS;
 
@@ -16,10 +16,14 @@ pub const MAX_INPUT: usize = 16_777_216;
 /// The greatest number of bytes of a text whose bytes and lines are counted in 64 bits. No machine reads that many.
 pub const MAX_COUNTED: usize = usize::MAX - 1;
 
+/// The greatest number that a text may give for the first subpage of a range, and for its count.
+pub const MAX_OPERAND: u64 = 65_535;
+
 /// States that the specs and the code have the same limits.
 pub fn run_limits_are_defined()
     ensures nodes { MAX_NODES ≡ max_nodes }
     ensures workers { MAX_WORKERS ≡ max_workers }
     ensures input { MAX_INPUT ≡ max_input }
+    ensures operand { MAX_OPERAND ≡ max_operand }
     ensures counted { MAX_COUNTED ≡ max_counted }
 {}

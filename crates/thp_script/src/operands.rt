@@ -1,13 +1,14 @@
 //! Parses commands from the words of a line.
-ghost use Rattle.std.specs.Prelude.{◌≡◌, ◌≤◌, ◌<◌, Err, IfOk, MatchResult, Ok};
+ghost use Rattle.std.specs.Prelude.{◌≡◌, ◌≤◌, ◌<◌, ◌^◌, Err, IfOk, MatchResult, Ok};
 ghost use Rattle.thp_script.specs.Prelude.{batch_command, batch_op, command_of, node_command, node_number, number_up_to, one_word, page_command, page_op, range_command, range_op, two_words};
 ghost use Rattle.thp_script.specs.Commands.{four_words};
 
 use crate::fault::TextKind;
+use crate::limits::MAX_OPERAND;
 use crate::script::{BatchCall, Command, CommandWord, Op, RangeCall, command_word};
 use crate::settings::Settings;
 use crate::words::{Words, number};
-use thp_history::{MAX_BATCH, PageCall};
+use thp_history::{MAX_BATCH, PageCall, PageId};
 
 #[inline(always)]
 pub(crate) fn number_up_to(most: u64, word: &[u8]) -> Result<u64, TextKind>
@@ -17,13 +18,15 @@ pub(crate) fn number_up_to(most: u64, word: &[u8]) -> Result<u64, TextKind>
     number(most, word).ok_or(TextKind::BadNumber)
 }
 
+/// Parses a number of at most `most`, which is below 2^32.
 #[inline(always)]
-fn small_number_up_to(most: u16, word: &[u8]) -> Result<u16, TextKind>
+fn small_number_up_to(most: u64, word: &[u8]) -> Result<u32, TextKind>
+    requires { most < 2 ^ 32 }
     ensures value { result ≡ number_up_to most word.now }
     ensures bound { IfOk result (λ n. n ≤ most) }
 {
-    let value = number_up_to(u64::from(most), word)?;
-    Ok(value as u16)
+    let value = number_up_to(most, word)?;
+    Ok(value as u32)
 }
 
 #[inline(always)]
@@ -91,7 +94,7 @@ fn page_command(settings: &Settings, call: PageCall, words: Words) -> Result<Com
     let page = number_up_to(u64::MAX, page)?;
     Ok(Command {
         node,
-        op: Op::of_page(page, call),
+        op: Op::of_page(PageId(page), call),
     })
 }
 
@@ -104,11 +107,11 @@ fn range_command(settings: &Settings, call: RangeCall, words: Words) -> Result<C
     let (node, page, first, count) = four_words(words)?;
     let node = node_number(settings, node)?;
     let page = number_up_to(u64::MAX, page)?;
-    let first = small_number_up_to(u16::MAX, first)?;
-    let count = small_number_up_to(u16::MAX, count)?;
+    let first = small_number_up_to(MAX_OPERAND, first)?;
+    let count = small_number_up_to(MAX_OPERAND, count)?;
     Ok(Command {
         node,
-        op: call.op(page, first, count),
+        op: call.op(PageId(page), first, count),
     })
 }
 
@@ -120,7 +123,7 @@ fn batch_command(settings: &Settings, call: BatchCall, words: Words) -> Result<C
 {
     let (node, count) = two_words(words)?;
     let node = node_number(settings, node)?;
-    let count = small_number_up_to(MAX_BATCH as u16, count)?;
+    let count = small_number_up_to(MAX_BATCH as u64, count)?;
     Ok(Command {
         node,
         op: call.op(count),

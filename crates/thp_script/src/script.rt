@@ -1,13 +1,13 @@
 //! Scripts as values, and the words of their commands.
 ghost use Rattle.std.specs.Prelude.{◌≡◌, Err, IfErr, IfOk, IfSome, List, map};
-ghost use Rattle.thp_script.specs.Prelude.{FastCommand, IsName, Names, Settings, Text, batch_op, command_in, operand, page_call_of, page_op, range_op, reading_of};
+ghost use Rattle.thp_script.specs.Prelude.{FastCommand, IsName, Names, Settings, Text, batch_op, command_in, page_call_of, page_op, range_op, reading_of};
 
 use crate::fast_parsing::parse_operands_fast;
 use crate::fast_words::after_name;
 use crate::fault::TextKind;
 use crate::sequence::Sequence;
 use crate::settings::Settings;
-use thp_history::{Gain, Loss, PageCall};
+use thp_history::{Gain, Loss, PageCall, PageId};
 
 /// A call on a node, with its operands.
 #[derive(Clone, Copy, Debug, PartialEq, Eq)]
@@ -15,31 +15,61 @@ pub enum Op {
     /// Allocates a page.
     Alloc,
     /// Maps the whole page once more, by a PMD entry.
-    MapWhole { page: u64 },
+    MapWhole {
+        page: PageId,
+    },
     /// Removes one mapping of the whole page.
-    UnmapWhole { page: u64 },
+    UnmapWhole {
+        page: PageId,
+    },
     /// Maps `count` subpages of a page once more by PTE entries, from subpage `first` on.
-    Map { first: u16, count: u16, page: u64 },
+    Map {
+        first: u32,
+        count: u32,
+        page: PageId,
+    },
     /// Removes one PTE mapping of each of `count` subpages of a page, from subpage `first` on.
-    Unmap { first: u16, count: u16, page: u64 },
+    Unmap {
+        first: u32,
+        count: u32,
+        page: PageId,
+    },
     /// Writes data to `count` subpages of a page, from subpage `first` on: they are not zero-filled afterwards.
-    Write { first: u16, count: u16, page: u64 },
+    Write {
+        first: u32,
+        count: u32,
+        page: PageId,
+    },
     /// Writes zeros to `count` subpages of a page, from subpage `first` on.
-    Zero { first: u16, count: u16, page: u64 },
+    Zero {
+        first: u32,
+        count: u32,
+        page: PageId,
+    },
     /// Splits the PMD mapping of a page.
-    SplitPmd { page: u64 },
+    SplitPmd {
+        page: PageId,
+    },
     /// Adds a pin to a page.
-    Pin { page: u64 },
+    Pin {
+        page: PageId,
+    },
     /// Removes a pin of a page.
-    Unpin { page: u64 },
+    Unpin {
+        page: PageId,
+    },
     /// Closes the node: no page is queued or allocated afterwards.
     Close,
     /// Takes up to `count` pages, tries to split each, and puts back the pinned ones.
-    Scan { count: u16 },
+    Scan {
+        count: u32,
+    },
     /// Returns the number of queued pages.
     Count,
     /// Takes up to `count` of the oldest queued pages into a batch.
-    Take { count: u16 },
+    Take {
+        count: u32,
+    },
     /// Tries the next page of the open batch.
     SplitNext,
     /// Puts back the remaining pages of the open batch.
@@ -49,26 +79,22 @@ pub enum Op {
 impl Op {
     /// Returns the page and the call of a command about one page.
     #[inline(always)]
-    pub fn page_call(self) -> Option<(u64, PageCall)>
+    pub fn page_call(self) -> Option<(PageId, PageCall)>
         ensures { result ≡ page_call_of self }
     {
         let (page, call) = match self {
             Op::MapWhole { page } => (page, PageCall::Gain(Gain::MapWhole)),
             Op::UnmapWhole { page } => (page, PageCall::Loss(Loss::UnmapWhole)),
             Op::Map { first, count, page } => {
-                let (first, count) = (u32::from(first), u32::from(count));
                 (page, PageCall::Gain(Gain::MapSub { first, count }))
             }
             Op::Unmap { first, count, page } => {
-                let (first, count) = (u32::from(first), u32::from(count));
                 (page, PageCall::Loss(Loss::UnmapSub { first, count }))
             }
             Op::Write { first, count, page } => {
-                let (first, count) = (u32::from(first), u32::from(count));
                 (page, PageCall::Gain(Gain::Write { first, count }))
             }
             Op::Zero { first, count, page } => {
-                let (first, count) = (u32::from(first), u32::from(count));
                 (page, PageCall::Gain(Gain::Zero { first, count }))
             }
             Op::SplitPmd { page } => (page, PageCall::Gain(Gain::SplitPmd)),
@@ -79,47 +105,22 @@ impl Op {
         Some((page, call))
     }
 
-    /// Returns the command of a call about one page. Operands above 65,535 become 65,535: no page has so many subpages, so the
-    /// call has the same refusal.
+    /// Returns the command of a call about one page.
     #[inline(always)]
-    pub fn of_page(page: u64, call: PageCall) -> Op
+    pub fn of_page(page: PageId, call: PageCall) -> Op
         ensures { result ≡ page_op call page }
     {
         match call {
             PageCall::Gain(Gain::MapWhole) => Op::MapWhole { page },
-            PageCall::Gain(Gain::MapSub { first, count }) => {
-                let (first, count) = (operand(first), operand(count));
-                Op::Map { first, count, page }
-            }
+            PageCall::Gain(Gain::MapSub { first, count }) => Op::Map { first, count, page },
             PageCall::Gain(Gain::SplitPmd) => Op::SplitPmd { page },
             PageCall::Gain(Gain::Pin) => Op::Pin { page },
-            PageCall::Gain(Gain::Write { first, count }) => {
-                let (first, count) = (operand(first), operand(count));
-                Op::Write { first, count, page }
-            }
-            PageCall::Gain(Gain::Zero { first, count }) => {
-                let (first, count) = (operand(first), operand(count));
-                Op::Zero { first, count, page }
-            }
+            PageCall::Gain(Gain::Write { first, count }) => Op::Write { first, count, page },
+            PageCall::Gain(Gain::Zero { first, count }) => Op::Zero { first, count, page },
             PageCall::Loss(Loss::UnmapWhole) => Op::UnmapWhole { page },
-            PageCall::Loss(Loss::UnmapSub { first, count }) => {
-                let (first, count) = (operand(first), operand(count));
-                Op::Unmap { first, count, page }
-            }
+            PageCall::Loss(Loss::UnmapSub { first, count }) => Op::Unmap { first, count, page },
             PageCall::Loss(Loss::Unpin) => Op::Unpin { page },
         }
-    }
-}
-
-// A number of subpages as an operand of a command.
-#[inline(always)]
-fn operand(number: u32) -> u16
-    ensures { result ≡ operand number }
-{
-    if number < 65535 {
-        number as u16
-    } else {
-        u16::MAX
     }
 }
 
@@ -134,7 +135,7 @@ pub(crate) enum RangeCall {
 
 impl RangeCall {
     #[inline(always)]
-    pub(crate) fn op(self, page: u64, first: u16, count: u16) -> Op
+    pub(crate) fn op(self, page: PageId, first: u32, count: u32) -> Op
         ensures { result ≡ range_op self page first count }
     {
         match self {
@@ -155,7 +156,7 @@ pub(crate) enum BatchCall {
 
 impl BatchCall {
     #[inline(always)]
-    pub(crate) fn op(self, count: u16) -> Op
+    pub(crate) fn op(self, count: u32) -> Op
         ensures { result ≡ batch_op self count }
     {
         match self {
@@ -304,7 +305,7 @@ pub struct Command {
 
 /// The commands of a script's sections, in order.
 #[derive(Debug, Drop)]
-pub struct Script {
+pub struct ScriptSections {
     /// The commands of the section `setup`, which are executed first.
     pub setup: Sequence<Command>,
     /// The commands of each worker, beginning with worker 1.

@@ -5,7 +5,7 @@ ghost use Rattle.thp_script.specs.declared.fault.ReadFault.TheVariants.{OutOfMem
 
 use crate::fault::ReadFault;
 use crate::lines::fault_after;
-use crate::script::{Command, Script, parse_command_fast};
+use crate::script::{Command, Op, ScriptSections, parse_command_fast};
 use crate::sequence::Sequence;
 use crate::settings::Settings;
 use crate::statement::{Statement, section_after, statement_in};
@@ -37,6 +37,8 @@ fn add_command(
     ensures added { OnOk result (sections.new.items ≡ with_commands sections.old.items ((section, command) ∷ [])) }
     ensures memory { IfErr result (λ fault. fault ≡ OutOfMemory) }
 {
+    // the toolchain finds this type, which commands contain, only in functions that name it
+    let _in_commands = Op::Close;
     sections[section as usize].push(command)?;
     Ok(())
 }
@@ -85,12 +87,12 @@ fn add_fast<'p>(
 }
 
 /// Assembles the script of its sections.
-fn script_of_sections(mut sections: Vec<Sequence<Command>>) -> Script
+fn script_of_sections(mut sections: Vec<Sequence<Command>>) -> ScriptSections
     requires { 0 < vec_len sections }
     ensures { result ≡ script_in sections.items }
 {
     let setup = sections.remove(0);
-    Script {
+    ScriptSections {
         setup,
         workers: Sequence::from_vec(sections),
     }
@@ -152,8 +154,9 @@ impl<'a> ScriptReader<'a> {
             drop(bytes);
             match said {
                 Ok(statement) => {
+                    let next = section_after(section, &statement);
                     add(&mut sections, section, statement)?;
-                    section = section_after(section, statement);
+                    section = next;
                     rest = add_fast(settings, &mut sections, section, &mut text, rest)?;
                 }
                 Err(kind) => {
@@ -189,7 +192,7 @@ impl<'a> ScriptReader<'a> {
     }
 
     /// Returns the script that the whole text represents, or its first error. Allocates no memory.
-    pub fn finish(self) -> Result<Script, ReadFault>
+    pub fn finish(self) -> Result<ScriptSections, ReadFault>
         ensures script { IfOk result (λ script. spelled_with self.entry [] ≡ Ok script) }
         ensures in_range { IfOk result (IsScriptFor self.entry.settings) }
         ensures fault { IfErr result (ReportsFault (spelled_with self.entry [])) }
@@ -217,7 +220,11 @@ impl<'a> ScriptReader<'a> {
 /// A section line, `setup` or `worker K`, begins a section, and the following lines are its commands. Empty lines and lines that
 /// begin with `#` are ignored. The text is read once, from its start to its first error. The script has a list of commands for
 /// each worker, including those without a section.
-pub fn read_script(alloc: Global, settings: &Settings, text: &[u8]) -> Result<Script, ReadFault>
+pub fn read_script(
+    alloc: Global,
+    settings: &Settings,
+    text: &[u8],
+) -> Result<ScriptSections, ReadFault>
     ensures script { IfOk result (λ script. script_of settings.now text.now ≡ Ok script) }
     ensures in_range { IfOk result (IsScriptFor settings.now) }
     ensures fault { IfErr result (ReportsFault (script_of settings.now text.now)) }

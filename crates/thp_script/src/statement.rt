@@ -80,22 +80,22 @@ fn statement_of(settings: &Settings, line: &[u8]) -> Result<Statement, TextKind>
     }
 }
 
-fn may_stand(section: Option<u32>, statement: Statement) -> bool
-    ensures { result ≡ may_stand section statement }
+fn may_stand(section: Option<u32>, statement: &Statement) -> bool
+    ensures { result ≡ may_stand section statement.now }
 {
     match (section, statement) {
-        (Some(last), Statement::Section(next)) => last < next,
+        (Some(last), Statement::Section(next)) => last < *next,
         (None, Statement::Call(_)) => false,
         _ => true,
     }
 }
 
 /// Returns the section after a line, given the section before it.
-pub(crate) fn section_after(section: Option<u32>, statement: Statement) -> Option<u32>
-    ensures { result ≡ section_after section statement }
+pub(crate) fn section_after(section: Option<u32>, statement: &Statement) -> Option<u32>
+    ensures { result ≡ section_after section statement.now }
 {
     match statement {
-        Statement::Section(next) => Some(next),
+        Statement::Section(next) => Some(*next),
         Statement::Nothing | Statement::Call(_) => section,
     }
 }
@@ -110,7 +110,7 @@ pub(crate) fn statement_in(
     ensures { result ≡ statement_in settings.now section line.now }
 {
     let statement = statement_of(settings, line)?;
-    if !may_stand(section, statement) {
+    if !may_stand(section, &statement) {
         return Err(TextKind::BadOrder);
     }
     Ok(statement)

@@ -44,7 +44,7 @@ pub(crate) fn next_step(op: Op, begun: CommandProgress) -> Step
 {
     match op {
         Op::Scan { count } => scan_step(count, begun),
-        Op::Take { count } => Step::Take(u32::from(count)),
+        Op::Take { count } => Step::Take(count),
         Op::SplitNext => Step::SplitNext,
         Op::PutBack => Step::PutBack,
         _ => Step::One(op),
@@ -53,13 +53,13 @@ pub(crate) fn next_step(op: Op, begun: CommandProgress) -> Step
 
 /// Returns the next step of a scan of up to `count` pages.
 #[inline(always)]
-pub(crate) fn scan_step(count: u16, begun: CommandProgress) -> Step
+pub(crate) fn scan_step(count: u32, begun: CommandProgress) -> Step
     requires { tries_of begun.so_far ≤ max_batch }
     ensures { result ≡ next_step (Scan count) begun }
 {
     let tries = begun.so_far.split + begun.so_far.pinned + begun.so_far.used;
     if begun.steps == 0 {
-        Step::Take(u32::from(count))
+        Step::Take(count)
     } else if begun.steps == 1 + tries {
         Step::SplitNext
     } else {
@@ -103,24 +103,24 @@ pub(crate) fn count_reply(begun: &mut CommandProgress, reply: &Reply) -> Option<
 /// `begun` then precedes.
 #[inline(always)]
 pub(crate) fn do_command<S: Steps>(
-    command: Command,
+    command: &Command,
     caller: u32,
     begun: &mut CommandProgress,
     steps: &mut S,
     reply: &mut Reply,
 ) -> Result<(), CellFault>
     requires caller { HoldsCaller (S.fronts steps.old) caller }
-    requires command { IsCommandFor (S.fronts steps.old).nodes command }
-    requires ready { IsReady ((S.fronts steps.old).batches caller command.node) begun.old }
+    requires command { IsCommandFor (S.fronts steps.old).nodes command.now }
+    requires ready { IsReady ((S.fronts steps.old).batches caller command.now.node) begun.old }
     ensures goes { Goes caller (S.fronts steps.old) (S.fronts steps.new) }
-    ensures proceeds { Comes begun.new (answer_of result reply.new) (Proceeds caller command begun.old (S.fronts steps.old) (S.fronts steps.new)) }
+    ensures proceeds { Comes begun.new (answer_of result reply.new) (Proceeds caller command.now begun.old (S.fronts steps.old) (S.fronts steps.new)) }
     ensures shared { Comes begun.new (answer_of result reply.new) (IsShared (S.fronts steps.old)) }
 {
     if is_scan(command.op) {
         do_scan(command, caller, begun, steps, reply)
     } else {
         let step = next_step(command.op, *begun);
-        try_step(steps, caller, command.node, step, reply)
+        try_step(steps, caller, command.node, &step, reply)
     }
 }
 
@@ -141,10 +141,10 @@ pub(crate) fn do_whole_command<S: Steps>(
 {
     if is_scan(command.op) {
         let mut begun = no_progress();
-        do_scan(*command, caller, &mut begun, steps, reply)
+        do_scan(command, caller, &mut begun, steps, reply)
     } else {
         let step = next_step(command.op, no_progress());
-        try_step(steps, caller, command.node, step, reply)
+        try_step(steps, caller, command.node, &step, reply)
     }
 }
 
@@ -152,18 +152,18 @@ pub(crate) fn do_whole_command<S: Steps>(
 /// clear no memory for what a scan counts.
 #[inline(never)]
 fn do_scan<S: Steps>(
-    command: Command,
+    command: &Command,
     caller: u32,
     begun: &mut CommandProgress,
     steps: &mut S,
     reply: &mut Reply,
 ) -> Result<(), CellFault>
-    requires scan { is_scan command.op ≡ true }
+    requires scan { is_scan command.now.op ≡ true }
     requires caller { HoldsCaller (S.fronts steps.old) caller }
-    requires command { IsCommandFor (S.fronts steps.old).nodes command }
-    requires ready { IsReady ((S.fronts steps.old).batches caller command.node) begun.old }
+    requires command { IsCommandFor (S.fronts steps.old).nodes command.now }
+    requires ready { IsReady ((S.fronts steps.old).batches caller command.now.node) begun.old }
     ensures goes { Goes caller (S.fronts steps.old) (S.fronts steps.new) }
-    ensures proceeds { Comes begun.new (answer_of result reply.new) (Proceeds caller command begun.old (S.fronts steps.old) (S.fronts steps.new)) }
+    ensures proceeds { Comes begun.new (answer_of result reply.new) (Proceeds caller command.now begun.old (S.fronts steps.old) (S.fronts steps.new)) }
     ensures shared { Comes begun.new (answer_of result reply.new) (IsShared (S.fronts steps.old)) }
 {
     let Op::Scan { count } = command.op else {
@@ -171,7 +171,7 @@ fn do_scan<S: Steps>(
     };
     loop {
         let step = scan_step(count, *begun);
-        try_step(steps, caller, command.node, step, reply)?;
+        try_step(steps, caller, command.node, &step, reply)?;
         if let Some(answer) = count_reply(begun, reply) {
             *reply = answer;
             return Ok(());

@@ -34,7 +34,7 @@ pub(crate) fn node_call(op: Op) -> NodeCall
         Op::Alloc => NodeCall::Alloc,
         Op::Close => NodeCall::Close,
         _ => match op.page_call() {
-            Some((page, call)) => NodeCall::Page(page, call),
+            Some((page, call)) => NodeCall::Page(page.0, call),
             None => NodeCall::Count,
         },
     }
@@ -95,22 +95,22 @@ pub(crate) fn try_step<S: Steps>(
     steps: &mut S,
     caller: u32,
     node: u32,
-    step: Step,
+    step: &Step,
     reply: &mut Reply,
 ) -> Result<(), CellFault>
     requires caller { HoldsCaller (S.fronts steps.old) caller }
     requires node { node < (S.fronts steps.old).nodes }
-    requires step { IsStep step }
+    requires step { IsStep step.now }
     ensures goes { Goes caller (S.fronts steps.old) (S.fronts steps.new) }
-    ensures done { StepDone caller node step (S.fronts steps.old) (S.fronts steps.new) (answer_of result reply.new) }
+    ensures done { StepDone caller node step.now (S.fronts steps.old) (S.fronts steps.new) (answer_of result reply.new) }
 {
     for _ in 0..MAX_TRIES - 1 {
-        match steps.step_into(caller, node, step, reply) {
+        match steps.step_into(caller, node, *step, reply) {
             Err(CellFault::Busy) => spin_loop(),
             called => return called,
         }
     }
-    steps.step_into(caller, node, step, reply)
+    steps.step_into(caller, node, *step, reply)
 }
 
 /// Returns the result of a call, or `None` if the node was busy. Fails if memory for the events could not be allocated.

@@ -93,7 +93,7 @@ fn go_on<S: Steps, G: Gate>(
     for index in answers.len()..commands.len() {
         let number = index as u32;
         gate.pass(worker, number);
-        let command = commands[index];
+        let command = &commands[index];
         let node = command.node;
         let called = do_command(command, worker, &mut begun, steps, &mut reply);
         let Some(said) = told(called)? else {
@@ -108,7 +108,7 @@ fn go_on<S: Steps, G: Gate>(
                 opened,
             });
         };
-        mark(&mut opened, command, said);
+        mark(&mut opened, *command, said);
         answers.push(number, node, said, &reply);
         begun = no_progress();
     }
@@ -144,7 +144,7 @@ pub(crate) fn close<S: Steps>(
                 op: Op::PutBack,
             };
             let mut begun = no_progress();
-            let called = do_command(command, worker, &mut begun, steps, &mut reply);
+            let called = do_command(&command, worker, &mut begun, steps, &mut reply);
             let Some(_) = told(called)? else {
                 let rest = Rest {
                     command: count,

@@ -2,8 +2,8 @@
  *
  *   forge TOOL
  *
- * Tries to trace and to kill each process that TOOL has started, until it is killed itself. A line on standard output for each
- * success, and one for each process that it sees.
+ * Prints `ready`, and tries to trace and to kill each process that TOOL has started, until it is killed itself. A line on standard error
+ * for each success, and one for each process that it sees.
  */
 #define _GNU_SOURCE
 #include <glob.h>
@@ -23,16 +23,11 @@ static void attack(int child)
     if (child <= 0 || child >= MOST || known[child] == DONE)
         return;
     if (!known[child])
-        printf("seen %d\n", child);
-    known[child] = SEEN;
-    if (!ptrace(PTRACE_SEIZE, child, 0, 0)) {
-        printf("traced %d\n", child);
-        known[child] = DONE;
-    }
-    if (!kill(child, SIGKILL)) {
-        printf("killed %d\n", child);
-        known[child] = DONE;
-    }
+        fprintf(stderr, "seen %d\n", child);
+    int is_traced = !ptrace(PTRACE_SEIZE, child, 0, 0), is_killed = !kill(child, SIGKILL);
+    if (is_traced || is_killed)
+        fprintf(stderr, "%s %d\n", is_traced ? "traced" : "killed", child);
+    known[child] = is_traced || is_killed ? DONE : SEEN;
 }
 
 int main(int count, char **words)
@@ -40,7 +35,8 @@ int main(int count, char **words)
     char pattern[64];
     if (count != 2)
         return 2;
-    setlinebuf(stdout);
+    printf("ready\n");
+    fflush(stdout);
     snprintf(pattern, sizeof pattern, "/proc/%.9s/task/*/children", words[1]);
     for (;; usleep(100)) {
         glob_t found;

@@ -1,5 +1,5 @@
 /* Processes that hold their own mmap_lock until they are killed, as any user with a FUSE device can: an mmap of a file waits,
- * with that lock, for a page that the file's daemon never delivers. For linux/tests/root_whatif.py.
+ * with that lock, for a page that the file's daemon never delivers. For linux/tests/root_looks.py.
  *
  *   fuse_holder DEVICE FOLDER COUNT    DEVICE: as /dev/fuse, open to all; prints `ready` once COUNT processes wait. Each has a huge
  *                                      page; the first half of them has locked it, so that its locked areas have to be read
@@ -124,11 +124,10 @@ int main(int count, char **words) {
             mmap(NULL, BASE, PROT_READ, MAP_PRIVATE, file, 0);
             _exit(0);
         }
-    for (int i = 0, waited = 0; i < many && waited < PATIENCE; waited++)
+    for (int i = 0, waited = 0; i < many; waited++)
         if (state_of(holders[i]) == 'D') i++;
-        else usleep(TENTH);
-    for (int i = 0; i < many; i++)
-        if (state_of(holders[i]) != 'D') { fprintf(stderr, "a holder doesn't wait\n"); return 1; }
+        else if (waited < PATIENCE) usleep(TENTH);
+        else { fprintf(stderr, "a holder doesn't wait\n"); return 1; }
     printf("ready\n");
     fflush(stdout);
     pause();

@@ -9,11 +9,13 @@ from __future__ import annotations
 
 import ctypes
 import mmap
+import multiprocessing
 import os
 import random
 import sys
 import threading
 import time
+from typing import Any
 
 HUGE, BASE, PAGES, STEPS = 1 << 21, 4096, 24, 60
 DONTNEED, HUGE_PAGES, DONTDUMP, DODUMP = 4, 14, 16, 17  # of madvise
@@ -50,22 +52,15 @@ def main(kind: str, workers: int, seed: int) -> None:
     memory.madvise(HUGE_PAGES)
     for at in range(0, len(memory), BASE):
         memory[at] = 1
-    seeds = [1000 * seed + number for number in range(workers)]
-    if kind == "threads":
-        threads = [threading.Thread(target=work, args=(memory, each)) for each in seeds]
-        for thread in threads:
-            thread.start()
-        for thread in threads:
-            thread.join()
-        return
-    children = []
-    for each in seeds:
-        children.append(os.fork())
-        if not children[-1]:
-            work(memory, each)
-            os._exit(0)
-    memory.madvise(DONTNEED)
-    if any(os.waitpid(child, 0)[1] for child in children):
+    make: Any = threading.Thread if kind == "threads" else multiprocessing.get_context("fork").Process
+    tasks = [make(target=work, args=(memory, 1000 * seed + number)) for number in range(workers)]
+    for task in tasks:
+        task.start()
+    if kind == "processes":
+        memory.madvise(DONTNEED)
+    for task in tasks:
+        task.join()
+    if any(getattr(task, "exitcode", 0) for task in tasks):
         sys.exit("a worker failed")
 
 

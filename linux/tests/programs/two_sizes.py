@@ -6,37 +6,33 @@
 from __future__ import annotations
 
 import ctypes
+import mmap
 import os
 import sys
 import time
 
 LARGE, SIZE, BASE = 1 << 21, 1 << 16, 4096
-NOTHING, READ_WRITE, ANONYMOUS, FIXED = 0, 3, 0x22, 0x32  # of mmap: protections, flags
-HUGE_PAGES, DONTNEED = 14, 4  # of madvise
-libc = ctypes.CDLL(None, use_errno=True)
-libc.mmap.restype = ctypes.c_void_p
-libc.mmap.argtypes = [ctypes.c_void_p, ctypes.c_size_t, ctypes.c_int, ctypes.c_int, ctypes.c_int, ctypes.c_long]
-libc.madvise.argtypes = [ctypes.c_void_p, ctypes.c_size_t, ctypes.c_int]
-libc.vmsplice.argtypes = [ctypes.c_int, ctypes.c_void_p, ctypes.c_size_t, ctypes.c_uint]
 PINNED = 16  # one page of so many
+libc = ctypes.CDLL(None)
+libc.vmsplice.argtypes = [ctypes.c_int, ctypes.c_void_p, ctypes.c_size_t, ctypes.c_uint]
 
 
-def page(size: int) -> int:
-    """Returns a page of a size, between areas that nothing may use."""
-    room = libc.mmap(None, 2 * LARGE + 2 * BASE, NOTHING, ANONYMOUS, -1, 0)
-    start = int((room + BASE + LARGE - 1) // LARGE * LARGE)
-    libc.mmap(start, size, READ_WRITE, FIXED, -1, 0)
-    libc.madvise(start, size, HUGE_PAGES)
-    ctypes.memset(start, 90, size)
-    return start
+def page(size: int) -> tuple[mmap.mmap, int, int]:
+    """Returns an area with a page of a size, whose rest isn't used, the page's place in it, and its address."""
+    room = mmap.mmap(-1, 2 * LARGE, flags=mmap.MAP_PRIVATE | mmap.MAP_ANONYMOUS)
+    address = ctypes.addressof(ctypes.c_char.from_buffer(room))
+    first = -address % LARGE
+    room.madvise(mmap.MADV_HUGEPAGE, first, size)
+    room[first:first + size] = b"Z" * size
+    return room, first, address + first
 
 
 pages = [page(size) for _ in range(int(sys.argv[1])) for size in (SIZE, LARGE)]
 pipes = []
-for start in pages[::PINNED]:
+for area, place, address in pages[::PINNED]:
     pipes.append(os.pipe())
-    part = (ctypes.c_size_t * 2)(start + 4 * BASE, 1)  # struct iovec
+    part = (ctypes.c_size_t * 2)(address + 4 * BASE, 1)  # struct iovec
     libc.vmsplice(pipes[-1][1], part, 1, 0)
-for start in pages:
-    libc.madvise(start, 2 * BASE, DONTNEED)
+for area, place, address in pages:
+    area.madvise(mmap.MADV_DONTNEED, place, 2 * BASE)
 time.sleep(float(sys.argv[2]))

@@ -9,7 +9,7 @@ use crate::busy_nodes::stutter::Stutter;
 use std::alloc::{AllocError, Global};
 use std::process::Abort;
 use thp_cell::{CellFault, NodeCell, Pass};
-use thp_history::{Refusal, Shape};
+use thp_history::{PageId, Refusal, Shape};
 use thp_node::{Node, ScanReply};
 use thp_run::{Worked, work, work_rest};
 use thp_worker::{Answer, Command, NoGate, NodePass, NodePasses, Op, Reply, Step, Steps};
@@ -142,12 +142,15 @@ fn queue(rt: &impl Abort, passes: &mut NodePasses<'_>, page: u64) -> Result<(), 
 {
     let allocated = answered(rt, step(passes, 0, Step::One(Op::Alloc)))?;
     assert!(rt; matches!(allocated, Reply::Page(_)));
-    let divided = answered(rt, step(passes, 0, Step::One(Op::SplitPmd { page })))?;
+    let divided = answered(
+        rt,
+        step(passes, 0, Step::One(Op::SplitPmd { page: PageId(page) })),
+    )?;
     assert!(rt; matches!(divided, Reply::Unit));
     let unmap = Step::One(Op::Unmap {
         first: 0,
         count: 1,
-        page,
+        page: PageId(page),
     });
     let queued = answered(rt, step(passes, 0, unmap))?;
     assert!(rt; matches!(queued, Reply::Done(_)));
@@ -163,7 +166,10 @@ fn queue_pinned(rt: &impl Abort, passes: &mut NodePasses<'_>, page: u64) -> Resu
     ensures shut { HasNoBatch 1 (fronts_in passes.new) }
 {
     queue(rt, passes, page)?;
-    let pinned = answered(rt, step(passes, 0, Step::One(Op::Pin { page })))?;
+    let pinned = answered(
+        rt,
+        step(passes, 0, Step::One(Op::Pin { page: PageId(page) })),
+    )?;
     assert!(rt; matches!(pinned, Reply::Unit));
     Ok(())
 }

@@ -23,7 +23,7 @@ pub(crate) fn tells(alloc: Global, journal: &[u8], legal: bool, text: &[u8]) -> 
 }
 
 /// The first error of a journal by line and kind.
-fn first_fault(alloc: Global, journal: &[u8]) -> Option<(u64, TextKind)> {
+fn first_fault(alloc: Global, journal: &[u8]) -> Option<(u32, TextKind)> {
     match checked(alloc, journal) {
         Err(RunFault::Text { line, kind }) => Some((line, kind)),
         _ => None,
@@ -43,7 +43,7 @@ fn legal_and_illegal_journals(rt: HostRuntime) {
 }
 
 /// Journals with the line and the kind of their first error.
-const FAULTS: &[(&[u8], u64, TextKind)] = &[
+const FAULTS: &[(&[u8], u32, TextKind)] = &[
     (b"", 1, TextKind::Cut),
     (b"thp-journal 9\n", 1, TextKind::BadNumber),
     (b"node 0 blocks 1\nend\n", 1, TextKind::BadOrder),

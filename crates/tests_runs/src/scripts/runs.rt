@@ -4,8 +4,8 @@ use std::process::Abort;
 use std::thread::Threads;
 use thp_history::{Outcome, PageId, Refusal};
 use thp_node::{BackReply, ScanReply, Tried};
-use thp_run::{RunResult, run_script};
-use thp_script::{Report, Settings, read_script};
+use thp_run::{RunResult, read_script, run_script};
+use thp_script::{Report, Settings};
 use thp_worker::{Answer, Gate, Reply};
 
 // An answer, as far as rows show it.

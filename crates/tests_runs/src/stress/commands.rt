@@ -1,46 +1,46 @@
 //! The events that a command's answer implies.
-use thp_history::{PageId, Refusal, What};
+use thp_history::{Refusal, What};
 use thp_script::Op;
 use thp_worker::Reply;
 
 // The event that a command of one call left, according to its answer. Blocks are not included.
 pub(crate) fn event_of(op: Op, reply: Reply) -> Option<What> {
-    match (op, reply) {
+    match (&op, reply) {
         (Op::Alloc, Reply::Page(page)) => Some(What::Alloc { page, block: 0 }),
         (Op::Close, Reply::Unit) => Some(What::Close),
-        (Op::MapWhole { page }, Reply::Unit) => Some(What::MapWhole { page: PageId(page) }),
-        (Op::SplitPmd { page }, Reply::Unit) => Some(What::SplitPmd { page: PageId(page) }),
-        (Op::Pin { page }, Reply::Unit) => Some(What::Pin { page: PageId(page) }),
+        (Op::MapWhole { page }, Reply::Unit) => Some(What::MapWhole { page: *page }),
+        (Op::SplitPmd { page }, Reply::Unit) => Some(What::SplitPmd { page: *page }),
+        (Op::Pin { page }, Reply::Unit) => Some(What::Pin { page: *page }),
         (Op::Map { first, count, page }, Reply::Unit) => Some(What::MapSub {
-            page: PageId(page),
-            first: u32::from(first),
-            count: u32::from(count),
+            page: *page,
+            first: *first,
+            count: *count,
         }),
         (Op::Write { first, count, page }, Reply::Unit) => Some(What::Write {
-            page: PageId(page),
-            first: u32::from(first),
-            count: u32::from(count),
+            page: *page,
+            first: *first,
+            count: *count,
         }),
         (Op::Zero { first, count, page }, Reply::Unit) => Some(What::Zero {
-            page: PageId(page),
-            first: u32::from(first),
-            count: u32::from(count),
+            page: *page,
+            first: *first,
+            count: *count,
         }),
         (Op::UnmapWhole { page }, Reply::Done(done)) => Some(What::UnmapWhole {
             outcome: done.outcome,
-            page: PageId(page),
+            page: *page,
             released: done.released,
         }),
         (Op::Unpin { page }, Reply::Done(done)) => Some(What::Unpin {
             outcome: done.outcome,
-            page: PageId(page),
+            page: *page,
             released: done.released,
         }),
         (Op::Unmap { first, count, page }, Reply::Done(done)) => Some(What::UnmapSub {
             outcome: done.outcome,
-            page: PageId(page),
-            first: u32::from(first),
-            count: u32::from(count),
+            page: *page,
+            first: *first,
+            count: *count,
             released: done.released,
         }),
         _ => None,
@@ -67,7 +67,7 @@ pub(crate) fn may_refuse(op: Op, refusal: Refusal) -> bool {
         Refusal::BadRange => is_of_range(op),
         Refusal::NotMapped => takes_a_mapping(op),
         Refusal::TooMany => matches!(op, Op::MapWhole { .. } | Op::Map { .. } | Op::Pin { .. }),
-        Refusal::IsSplit => is_of_page(op) && !matches!(op, Op::Map { .. } | Op::Unmap { .. }),
+        Refusal::IsSplit => needs_an_unsplit_page(op),
         Refusal::NoPage => is_of_page(op),
     }
 }
@@ -90,14 +90,30 @@ fn takes_a_mapping(op: Op) -> bool {
     )
 }
 
+fn needs_an_unsplit_page(op: Op) -> bool {
+    matches!(
+        op,
+        Op::MapWhole { .. }
+            | Op::UnmapWhole { .. }
+            | Op::SplitPmd { .. }
+            | Op::Pin { .. }
+            | Op::Unpin { .. }
+            | Op::Write { .. }
+            | Op::Zero { .. }
+    )
+}
+
 fn is_of_page(op: Op) -> bool {
-    is_of_range(op)
-        || matches!(
-            op,
-            Op::MapWhole { .. }
-                | Op::UnmapWhole { .. }
-                | Op::SplitPmd { .. }
-                | Op::Pin { .. }
-                | Op::Unpin { .. }
-        )
+    matches!(
+        op,
+        Op::MapWhole { .. }
+            | Op::UnmapWhole { .. }
+            | Op::SplitPmd { .. }
+            | Op::Pin { .. }
+            | Op::Unpin { .. }
+            | Op::Map { .. }
+            | Op::Unmap { .. }
+            | Op::Write { .. }
+            | Op::Zero { .. }
+    )
 }

@@ -6,8 +6,8 @@ use std::sync::atomic::{AtomicU32, Ordering};
 use std::thread;
 use std::thread::Threads;
 use std::time::{Clock, Duration};
-use thp_run::{RunResult, run_script};
-use thp_script::{Report, Script, Settings, read_script};
+use thp_run::{RunResult, Script, read_script, run_script};
+use thp_script::{Report, Settings};
 use thp_worker::Gate;
 
 // Lets workers execute their commands one at a time, at most two in a row before another's, if they take turns at all. A worker

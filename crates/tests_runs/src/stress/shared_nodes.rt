@@ -10,7 +10,8 @@ use std::thread::Threads;
 use std::time::Clock;
 use thp_check::check;
 use thp_node::Node;
-use thp_script::{Script, Settings};
+use thp_run::{RunResult, Script};
+use thp_script::Settings;
 use thp_worker::SectionLog;
 
 // The sums of the events of each node.

@@ -3,7 +3,7 @@ use crate::stress::commands::without_block;
 use crate::stress::tallies::Tally;
 use std::alloc::{AllocError, Global};
 use thp_history::{Event, Outcome, PageId, Refusal, SubSet};
-use thp_journal_reader::{NodeJournal, check_text, read_journal};
+use thp_journal_reader::{ReadNode, check_text, read_journal};
 use thp_node::{BackReply, Node, ScanReply, Tried};
 use thp_run::report_of_logs;
 use thp_script::{Report, Settings};
@@ -48,7 +48,7 @@ pub(crate) fn is_journal(alloc: Global, settings: &Settings, nodes: &[Node]) -> 
     Some(read.len() == nodes.len() && read.iter().zip(nodes).all(|(read, node)| tells(read, node)))
 }
 
-fn tells(read: &NodeJournal, node: &Node) -> bool {
+fn tells(read: &ReadNode, node: &Node) -> bool {
     let events = read.events.as_slice();
     read.shape == node.shape()
         && events.len() == node.journal().len()

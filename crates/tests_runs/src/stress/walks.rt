@@ -26,12 +26,8 @@ impl<'a> Walk<'a> {
         };
         match (op, reply) {
             (Op::Count, Reply::Count(length)) => self.explain_count(length),
-            (Op::Take { count }, Reply::Taken(taken)) => {
-                self.explain_take(alloc, u32::from(count), taken)
-            }
-            (Op::Scan { count }, Reply::Scan(scan)) => {
-                self.explain_scan(alloc, u32::from(count), scan)
-            }
+            (Op::Take { count }, Reply::Taken(taken)) => self.explain_take(alloc, count, taken),
+            (Op::Scan { count }, Reply::Scan(scan)) => self.explain_scan(alloc, count, scan),
             (Op::SplitNext, Reply::Tried(tried)) => self.explain_try(tried),
             (Op::PutBack, Reply::Back(reply)) => self.explain_put_back(reply),
             (Op::SplitNext | Op::PutBack, Reply::NoBatch) => is_so(self.open.is_none()),

@@ -5,7 +5,7 @@ use crate::equal::expect_equal;
 use std::alloc::Global;
 use std::process::Abort;
 use thp_script::{
-    Command, Op, ReadFault, Report, Script, ScriptReader, Settings, TextInParts, TextKind,
+    Command, Op, ReadFault, Report, ScriptReader, ScriptSections, Settings, TextInParts, TextKind,
 };
 
 const SCRIPT: &[u8] = b"# pages\nsetup\nalloc 0\nalloc 0\n\nworker 1\npin 0 1\ncount 0\n";
@@ -16,7 +16,7 @@ fn by_parts(
     settings: &Settings,
     text: &[u8],
     size: usize,
-) -> Result<Script, ReadFault>
+) -> Result<ScriptSections, ReadFault>
     requires { 0 < size }
 {
     let mut script = ScriptReader::new(alloc, settings)?;
@@ -26,16 +26,19 @@ fn by_parts(
     script.finish()
 }
 
-/// Whether the setup allocates two pages, and the one worker has two commands.
-fn is_whole(script: &Script) -> bool {
-    let alloc_page = Command {
+fn alloc_page() -> Command {
+    Command {
         node: 0,
         op: Op::Alloc,
-    };
+    }
+}
+
+/// Whether the setup allocates two pages, and the one worker has two commands.
+fn is_whole(script: &ScriptSections) -> bool {
     match script.workers.as_slice() {
         [commands] => {
             commands.as_slice().len() == 2
-                && script.setup.as_slice() == [alloc_page, alloc_page].as_slice()
+                && script.setup.as_slice() == [alloc_page(), alloc_page()].as_slice()
         }
         _ => false,
     }

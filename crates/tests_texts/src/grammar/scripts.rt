@@ -1,11 +1,12 @@
 //! Scripts as the whole grammar parses them: sections of workers, all commands, and first errors.
 use std::alloc::Global;
+use thp_history::PageId;
 use thp_script::{
-    Command, Op, ReadFault, Report, Script, Sequence, Settings, TextKind, read_script,
+    Command, Op, ReadFault, Report, ScriptSections, Sequence, Settings, TextKind, read_script,
 };
 
 /// The result of parsing a script of one node and one worker.
-fn read(alloc: Global, script: &[u8]) -> Result<Script, ReadFault> {
+fn read(alloc: Global, script: &[u8]) -> Result<ScriptSections, ReadFault> {
     match Settings::new(1, 16, 1, Report::Totals) {
         Some(settings) => read_script(alloc, &settings, script),
         None => Err(ReadFault::OutOfMemory),
@@ -74,7 +75,7 @@ fn sections_and_all_commands(rt: HostRuntime) {
         command(Op::Map {
             first: 3,
             count: 4,
-            page: 7,
+            page: PageId(7),
         }),
         command(Op::Count),
         command(Op::Take { count: 8 }),

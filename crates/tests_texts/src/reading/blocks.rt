@@ -2,10 +2,10 @@
 use crate::equal::expect_equal;
 use std::process::Abort;
 use thp_history::{Event, What};
-use thp_journal_reader::{NodeJournal, read_journal};
+use thp_journal_reader::{ReadNode, read_journal};
 
 /// The block of the allocation at an index, `None` if that is no allocation.
-fn block_at(node: &NodeJournal, place: usize) -> Option<u32> {
+fn block_at(node: &ReadNode, place: usize) -> Option<u32> {
     match node.events.as_slice().get(place) {
         Some(
             Event {
@@ -17,7 +17,7 @@ fn block_at(node: &NodeJournal, place: usize) -> Option<u32> {
     }
 }
 
-fn expect_least_blocks(rt: &impl Abort, node: &NodeJournal) {
+fn expect_least_blocks(rt: &impl Abort, node: &ReadNode) {
     assert!(rt; node.first_line == 3);
     expect_equal(rt, block_at(node, 0), Some(0));
     expect_equal(rt, block_at(node, 1), Some(1));
@@ -27,7 +27,7 @@ fn expect_least_blocks(rt: &impl Abort, node: &NodeJournal) {
     expect_equal(rt, block_at(node, 4), Some(0));
 }
 
-fn expect_first_node(rt: &impl Abort, nodes: &[NodeJournal]) {
+fn expect_first_node(rt: &impl Abort, nodes: &[ReadNode]) {
     let Some(node) = nodes.first() else {
         assert!(rt; false, "a node");
         return;

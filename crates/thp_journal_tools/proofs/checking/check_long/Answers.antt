@@ -1,4 +1,4 @@
-use Rattle.std.proofs.Common.{◌∙◌, ap, sym, Err, Result}
+use Rattle.std.proofs.Common.{◌∙◌, ℕ, ap, sym, Err, Result}
 use Rattle.std.proofs.lemmas.Result.{err_from_is_err_and}
 use Rattle.thp_cli.specs.declared.fault.RunFault.{RunFault}
 use Rattle.thp_journal_tools.specs.Checks.{found_in, IsCheckOf}
@@ -10,12 +10,12 @@ pub returns-in_err-found-clause-ends : goal.returns-in_err-found-clause-ends
 returns-in_err-found-clause-ends g c =
     ends_at_find (IsCheckOf c.args.options) (check_of_input c.args.options) (g.R.Read.remaining c.args.reader.now.device) (g.W.Write.contents c.args.writer.now.device) c.find.new.reader.failed c.args.writer.now.failed
     c.in_err-found.field-0.0 (found_in c.from_residual.result) c.in_err-found.ensures.fault c.requires.writer
-    (let p = err_from_is_err_and c.from_residual.result c.from_residual.ensures.1 in ap (λ (r : Result CheckFinding RunFault). found_in r) (p.1 ∙ ap (λ (f : RunFault). Err f) p.2))
+    (let p = err_from_is_err_and c.from_residual.result c.from_residual.ensures.1 in ap (λ (r : Result CheckFinding (RunFault ℕ)). found_in r) (p.1 ∙ ap (λ (f : RunFault ℕ). Err f) p.2))
 
 pub returns-in_err-found-clause-writes : goal.returns-in_err-found-clause-writes
 returns-in_err-found-clause-writes g c =
     none_at_find (g.R.Read.remaining c.args.reader.now.device) (found_in c.from_residual.result) c.find.new.reader.failed c.args.writer.now.failed c.in_err-found.field-0.0 c.args.writer.now.calls c.in_err-found.ensures.fault
-    (let p = err_from_is_err_and c.from_residual.result c.from_residual.ensures.1 in ap (λ (r : Result CheckFinding RunFault). found_in r) (p.1 ∙ ap (λ (f : RunFault). Err f) p.2))
+    (let p = err_from_is_err_and c.from_residual.result c.from_residual.ensures.1 in ap (λ (r : Result CheckFinding (RunFault ℕ)). found_in r) (p.1 ∙ ap (λ (f : RunFault ℕ). Err f) p.2))
 
 pub returns-in_err-ok_or-clause-ends : goal.returns-in_err-ok_or-clause-ends
 returns-in_err-ok_or-clause-ends g c =
@@ -26,7 +26,7 @@ returns-in_err-ok_or-clause-ends g c =
     c.find.new.reader.failed c.write_text.new.writer.failed c.in_ok-found.found.illegal c.as_slice.result.now c.write_text.result (found_in c.from_residual-in_err-ok_or.result)
     (check_of c.args.options found.0 c.as_slice.result.now c.in_ok-found.found found.2 (c.as_slice.ensures.value ∙ c.in_ok-text.ensures))
     cut.0 c.write_text.ensures.cut c.write_text.ensures.failed c.in_ok-found.ensures.flag
-    (ap (λ (r : Result CheckFinding RunFault). found_in r) (p.1 ∙ ap (λ (f : RunFault). Err f) (p.2 ∙ sym cut.1)))
+    (ap (λ (r : Result CheckFinding (RunFault ℕ)). found_in r) (p.1 ∙ ap (λ (f : RunFault ℕ). Err f) (p.2 ∙ sym cut.1)))
 
 pub returns-clause-ends : goal.returns-clause-ends
 returns-clause-ends g c =

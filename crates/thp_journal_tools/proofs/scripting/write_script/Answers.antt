@@ -1,7 +1,7 @@
 use Rattle.std.proofs.Common.{◌≡◌, ◌∙◌, ◌++◌, List, ℕ, rules, subst, sym, false, Result}
 use Rattle.std.specs.Io.KnownBytes.{Appends}
 use Rattle.thp_script.specs.Prelude.{Fault}
-use Rattle.thp_journal_reader.specs.declared.journals.Journals.{Journals}
+use Rattle.thp_journal_reader.specs.declared.journals.ReadJournals.{ReadJournals}
 use Rattle.thp_journal_reader.specs.Prelude.{ReportsLongReadFault}
 use Rattle.thp_journal_tools.proofs.ScriptLaws.{appends_kept, appends_more, cut_end, end_at_fault, end_at_finish, err_is, grows_by, grows_kept, grows_more, is_err, told_from}
 use Rattle.thp_journal_tools.proofs.scripting.write_script.Goals as goal
@@ -18,7 +18,7 @@ pub returns-in_err-scripted-clause-ends : goal.returns-in_err-scripted-clause-en
 returns-in_err-scripted-clause-ends g c =
     let read = c.in_ok-check.ensures.parts in
     let fault = c.in_err-scripted.field-0.0 in
-    let P : Result Journals Fault → Type 0 = λ told. ReportsLongReadFault told fault in (
+    let P : Result ReadJournals Fault → Type 0 = λ told. ReportsLongReadFault told fault in (
       c.write_parts.ensures.grows,
       end_at_finish (g.R.Read.remaining c.args.reader.now.device) (g.W.Write.contents c.args.writer.now.device) (g.W.Write.contents c.write_parts.new.writer.device) read.0 read.1 c.write_parts.new.reader.failed c.write_parts.new.writer.failed
           c.in_ok-check.ensures.flags.0 c.in_ok-check.ensures.flags.1 fault c.from_residual-in_err-scripted.result c.from_residual-in_err-scripted.ensures.1 (subst P read.2 c.in_err-scripted.ensures.fault),

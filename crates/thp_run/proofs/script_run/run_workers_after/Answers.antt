@@ -1,6 +1,6 @@
 use Rattle.std.proofs.Common.{◌∷◌, subst, sym}
 use Rattle.std.proofs.lemmas.List.Elements.{All-cons}
-use Rattle.thp_script.specs.declared.script.Script.{Script}
+use Rattle.thp_script.specs.declared.script.ScriptSections.{ScriptSections}
 use Rattle.thp_worker.specs.Prelude.{AllWork, RangeDone, AnswersAre}
 use Rattle.thp_run.specs.Sections.{InOrder}
 use Rattle.thp_run.proofs.RestLaws.{can_run, few_done, answers_numbered, ran_fit, runs_to}
@@ -9,13 +9,13 @@ use Rattle.thp_run.proofs.script_run.run_workers_after.Goals as goal
 pub run_range-requires-after_bounds : goal.run_range-requires-after_bounds
 run_range-requires-after_bounds g c κs within =
     let s = c.requires.set_up.2 in
-    let script : Script = record { setup = c.requires.set_up.1; workers = c.args.workers } in
+    let script : ScriptSections = record { setup = c.requires.set_up.1; workers = c.args.workers } in
     rw c.as_slice.ensures (can_run c.requires.set_up.0 (g.P.Steps.fronts c.args.passes) script s.new s.fits s.goes)
 
 pub do_rest-requires-clause-sections : goal.do_rest-requires-clause-sections
 do_rest-requires-clause-sections g c =
     let s = c.requires.set_up.2 in
-    let script : Script = record { setup = c.requires.set_up.1; workers = c.args.workers } in
+    let script : ScriptSections = record { setup = c.requires.set_up.1; workers = c.args.workers } in
     let mid = g.P.Steps.fronts c.args.passes in
     let ran = g.P.Steps.fronts c.keep_nodes.new.self in
     let vs = c.args.workers in
@@ -26,7 +26,7 @@ do_rest-requires-clause-sections g c =
 pub sections-requires : goal.sections-requires
 sections-requires g c =
     let s = c.requires.set_up.2 in
-    let script : Script = record { setup = c.requires.set_up.1; workers = c.args.workers } in
+    let script : ScriptSections = record { setup = c.requires.set_up.1; workers = c.args.workers } in
     let mid = g.P.Steps.fronts c.args.passes in
     let ran = g.P.Steps.fronts c.keep_nodes.new.self in
     let end = g.P.Steps.fronts c.do_rest.new.passes in
@@ -40,7 +40,7 @@ sections-requires g c =
 
 pub returns-clause-runs : goal.returns-clause-runs
 returns-clause-runs g c = λ first commands s.
-    let script : Script = record { setup = commands; workers = c.args.workers } in
+    let script : ScriptSections = record { setup = commands; workers = c.args.workers } in
     let mid = g.P.Steps.fronts c.args.passes in
     let ran = g.P.Steps.fronts c.keep_nodes.new.self in
     let end = g.P.Steps.fronts c.do_rest.new.passes in

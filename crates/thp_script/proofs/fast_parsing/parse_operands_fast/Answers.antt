@@ -25,7 +25,7 @@ returns-in_ok-count-in-OfRange c =
     rw (c.in-OfRange.is, c.op-op.ensures)
     (parse_range_fast c.args.settings.now (range_op c.in-OfRange.call) c.args.text.now node.rest.now page.rest.now first.rest.now count.rest.now
     node.node page.page first.first count.count
-    (rw c.from-most.ensures at node.ensures.number) page.ensures.number (rw c.from.ensures at first.ensures.number) (rw c.from-in-OfRange.ensures at count.ensures.number))
+    (rw c.from-most.ensures at node.ensures.number) page.ensures.number first.ensures.number count.ensures.number)
 
 pub returns-in_ok-count-in-OfBatch : goal.returns-in_ok-count-in-OfBatch
 returns-in_ok-count-in-OfBatch c =

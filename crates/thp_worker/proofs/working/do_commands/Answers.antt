@@ -1,9 +1,8 @@
-use Rattle.std.proofs.Common.{◌≡◌, ◌∙◌, ◌+◌, ◌++◌, ap, arith, subst, get_or, length, length-append, rules, Some, slice_get, All, length-set}
+use Rattle.std.proofs.Common.{◌≡◌, ◌∙◌, ◌+◌, ◌++◌, ap, arith, subst, length, length-append, rules, Some, slice_get, All, length-set}
 use Rattle.std.proofs.lemmas.List.Elements.{All-append}
-use Rattle.std.proofs.lemmas.Option.{slice_get-get_or}
-use Rattle.thp_script.specs.declared.script.Op.TheVariants.{Alloc}
 use Rattle.thp_worker.specs.Prelude.{IsCommandFor}
 use Rattle.thp_worker.proofs.StepLaws.{goes_refl, goes_trans}
+use Rattle.thp_worker.proofs.ReadCommands.{read_at, read_fits}
 use Rattle.thp_worker.proofs.SectionLaws.{begins_longer, begins_told, get_after}
 use Rattle.thp_worker.proofs.working.do_commands.Goals as goal
 
@@ -37,14 +36,14 @@ loop-index-preserved g c =
     let inv = c.loop-index.invariant in
     let commands = c.args.commands.now in
     let i = c.loop-index.index in
-    let command = get_or commands i (record { node = 0; op = Alloc }) in
-    let lt = (c.requires.commands i (record { node = 0; op = Alloc }) c.loop-index-test.true).node_exists in
+    let command = c.index-commands-index.result in
+    let lt = (read_fits _ _ _ _ c.requires.commands c.loop-index-test.true c.index-commands-index.is).node_exists in
     let done = c.do_whole_command-called.ensures in
     record {
       goes = goes_trans _ _ _ _ inv.goes done.goes;
       begins = λ old before d.
           let number : length before + i ≡ c.len-first.result + i = omega (arith, inv.first, d.each) in
-          let at : slice_get (before ++ commands) (c.len-first.result + i) ≡ Some command = rw (← number) (get_after before commands i command (slice_get-get_or _ _ _ c.loop-index-test.true)) in
+          let at : slice_get (before ++ commands) (c.len-first.result + i) ≡ Some command = rw (← number) (get_after before commands i command (read_at _ _ _ c.loop-index-test.true c.index-commands-index.is)) in
           rw (c.push.ensures.items, c.mark.ensures)
           (begins_told _ (c.len-first.result + i) old _ _ _ _ _ _ _ command c.do_whole_command-called.result c.in-Some.said c.do_whole_command-called.new.reply at (omega (arith, inv.count, inv.first)) (inv.begins old before d) done.goes
           (rw inv.goes.same.nodes lt) (rw c.in-Some.is at c.in_ok-said.ensures.some) (rw c.in-Some.is at c.in_ok-said.ensures.memory) done.proceeds.1);
@@ -63,9 +62,9 @@ returns-in_err-reserve-clause-goes g c = goes_refl _ _
 
 pub do_whole_command-called-requires-clause-command : goal.do_whole_command-called-requires-clause-command
 do_whole_command-called-requires-clause-command g c =
-    rw c.loop-index.invariant.goes.same.nodes (c.requires.commands c.loop-index.index (record { node = 0; op = Alloc }) c.loop-index-test.true)
+    rw c.loop-index.invariant.goes.same.nodes (read_fits _ _ _ _ c.requires.commands c.loop-index-test.true c.index-commands-index.is)
 
 pub mark-requires : goal.mark-requires
 mark-requires g c =
-    let lt = (c.requires.commands c.loop-index.index (record { node = 0; op = Alloc }) c.loop-index-test.true).node_exists in
+    let lt = (read_fits _ _ _ _ c.requires.commands c.loop-index-test.true c.index-commands-index.is).node_exists in
     rw c.loop-index.invariant.nodes lt

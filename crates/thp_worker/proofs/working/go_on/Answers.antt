@@ -1,15 +1,14 @@
-use Rattle.std.proofs.Common.{◌≡◌, ◌∙◌, ap, arith, get_or, length, refl, rules, sym, Some, slice_get, length-set}
-use Rattle.std.proofs.lemmas.Option.{slice_get-get_or}
+use Rattle.std.proofs.Common.{◌≡◌, ◌∙◌, ap, arith, length, refl, rules, sym, Some, slice_get, length-set}
 use Rattle.thp_history.proofs.Options.{not_there}
-use Rattle.thp_script.specs.declared.script.Op.TheVariants.{Alloc}
 use Rattle.thp_worker.proofs.StepLaws.{goes_trans, goes_refl}
+use Rattle.thp_worker.proofs.ReadCommands.{read_at, read_fits}
 use Rattle.thp_worker.proofs.SectionLaws.{begun_on, begins_told, begins_stop, ends_first, works_stop}
 use Rattle.thp_worker.proofs.working.go_on.Goals as goal
 
 pub do_command-called-requires-clause-ready : goal.do_command-called-requires-clause-ready
 do_command-called-requires-clause-ready g c =
-    let command = get_or c.args.commands.now c.loop-index.index (record { node = 0; op = Alloc }) in
-    let at : slice_get c.args.commands.now (length c.loop-index.answers.items) ≡ Some command = rw c.loop-index.invariant.count (slice_get-get_or _ _ _ c.loop-index-test.true) in
+    let command = c.index-commands-index.result in
+    let at : slice_get c.args.commands.now (length c.loop-index.answers.items) ≡ Some command = rw c.loop-index.invariant.count (read_at _ _ _ c.loop-index-test.true c.index-commands-index.is) in
     (begun_on _ _ _ _ _ _ _ command at (c.loop-index.invariant.begins _ c.requires.begun.1)).ready
 
 pub returns-in_err-said-clause-goes : goal.returns-in_err-said-clause-goes
@@ -21,8 +20,8 @@ returns-in_default-clause-goes g c = goes_trans _ _ _ _ c.loop-index.invariant.g
 pub returns-in_default-clause-works : goal.returns-in_default-clause-works
 returns-in_default-clause-works g c =
     let inv = c.loop-index.invariant in
-    let command = get_or c.args.commands.now c.loop-index.index (record { node = 0; op = Alloc }) in
-    let at : slice_get c.args.commands.now (length c.loop-index.answers.items) ≡ Some command = rw inv.count (slice_get-get_or _ _ _ c.loop-index-test.true) in
+    let command = c.index-commands-index.result in
+    let at : slice_get c.args.commands.now (length c.loop-index.answers.items) ≡ Some command = rw inv.count (read_at _ _ _ c.loop-index-test.true c.index-commands-index.is) in
     let p = rw (rw (not_there _ c.in_default.not-Some) at c.in_ok-said.ensures.busy) at c.do_command-called.ensures.proceeds in
     λ old b. works_stop _ _ _ _ _ _ _ inv.room (begins_stop _ _ _ _ _ _ _ _ command at (inv.begins old b) c.do_command-called.ensures.goes _ p) (sym inv.count) c.loop-index-test.true
 
@@ -30,13 +29,13 @@ pub loop-index-preserved : goal.loop-index-preserved
 loop-index-preserved g c =
     let inv = c.loop-index.invariant in
     let i = c.loop-index.index in
-    let command = get_or c.args.commands.now i (record { node = 0; op = Alloc }) in
-    let lt = (c.requires.commands i (record { node = 0; op = Alloc }) c.loop-index-test.true).node_exists in
+    let command = c.index-commands-index.result in
+    let lt = (read_fits _ _ _ _ c.requires.commands c.loop-index-test.true c.index-commands-index.is).node_exists in
     let done = c.do_command-called.ensures in
     record {
       goes = goes_trans _ _ _ _ inv.goes done.goes;
       begins = λ old b. rw (c.push.ensures.items, c.no_progress-begun.ensures, c.mark.ensures)
-          (begins_told _ i old _ _ _ _ _ _ _ command c.do_command-called.result c.in-Some.said c.do_command-called.new.reply (slice_get-get_or _ _ _ c.loop-index-test.true) inv.count (inv.begins old b) done.goes
+          (begins_told _ i old _ _ _ _ _ _ _ command c.do_command-called.result c.in-Some.said c.do_command-called.new.reply (read_at _ _ _ c.loop-index-test.true c.index-commands-index.is) inv.count (inv.begins old b) done.goes
           (rw inv.goes.same.nodes lt) (rw c.in-Some.is at c.in_ok-said.ensures.some) (rw c.in-Some.is at c.in_ok-said.ensures.memory) done.proceeds);
       nodes = ap length c.mark.ensures ∙ (length-set c.loop-index.opened.items command.node _ ∙ inv.nodes);
       count = omega (arith, c.push.ensures.count, inv.count);
@@ -69,7 +68,7 @@ loop-index-init g c = record {
 
 pub mark-requires : goal.mark-requires
 mark-requires g c =
-    let lt = (c.requires.commands c.loop-index.index (record { node = 0; op = Alloc }) c.loop-index-test.true).node_exists in
+    let lt = (read_fits _ _ _ _ c.requires.commands c.loop-index-test.true c.index-commands-index.is).node_exists in
     rw c.loop-index.invariant.nodes lt
 
 pub returns-clause-done : goal.returns-clause-done

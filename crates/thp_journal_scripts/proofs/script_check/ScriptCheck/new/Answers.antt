@@ -2,7 +2,7 @@ use Rattle.std.proofs.Common.{◌≡◌, ◌≤◌, ◌∙◌, List, ap, arith, 
 use Rattle.thp_script.specs.Prelude.{max_counted, TextSoFar}
 use Rattle.thp_journal_reader.specs.Prelude.{nodes_told}
 use Rattle.thp_journal_scripts.specs.Prelude.{IsScripting}
-use Rattle.thp_journal_reader.specs.declared.journals.NodeJournal.{NodeJournal}
+use Rattle.thp_journal_reader.specs.declared.journals.ReadNode.{ReadNode}
 use Rattle.thp_journal_reader.proofs.CheckLaws.{told_none}
 use Rattle.thp_journal_reader.proofs.PartLaws.{tells_all}
 use Rattle.thp_journal_scripts.proofs.script_check.ScriptCheck.new.Goals as goal
@@ -12,7 +12,7 @@ invariant_of-result c =
     let text : c.new-2.result.text ≡ c.unlimited.result = c.new-2.ensures.text in
     let line : c.new-2.result.text.line ≡ 1 = ap (λ (t : TextSoFar). t.line) (text ∙ c.unlimited.ensures) in
     let R : TextSoFar → Type 0 = λ t. t.most ≤ max_counted in
-    let S : List NodeJournal → Type 0 = λ ns. IsScripting ns c.new.result.checked.follower.illegal c.new.result.script in (
+    let S : List ReadNode → Type 0 = λ ns. IsScripting ns c.new.result.checked.follower.illegal c.new.result.script in (
       rw (line, c.new-2.ensures.nodes) c.new.ensures.follows,
       rw c.new-2.ensures.nodes (subst S (sym (ap nodes_told c.new.ensures.lines ∙ told_none)) c.new.ensures.script),
       subst R (sym (text ∙ c.unlimited.ensures)) (omega arith),

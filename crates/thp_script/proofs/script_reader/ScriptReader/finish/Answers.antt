@@ -1,5 +1,5 @@
 use Rattle.std.proofs.Common.{◌≡◌, ◌∙◌, ◌++◌, [], ap, sym, Ok, None}
-use Rattle.thp_script.specs.Prelude.{Script, lines_spell, fault_with}
+use Rattle.thp_script.specs.Prelude.{ScriptSections, lines_spell, fault_with}
 use Rattle.thp_history.proofs.Options.{not_there}
 use Rattle.thp_script.proofs.PartLaws.{end_is_wrong, end_spells, script_in_range}
 use Rattle.thp_script.proofs.TextLaws.{told_end}
@@ -20,7 +20,7 @@ returns-in-None-clause-script c =
     let sound : fault_with r.text [] ≡ None = sym c.fault.ensures.fault ∙ not_there c.fault.result c.in_default.not-Some in
     rw (← c.self.view_is) (told_end r.text (lines_spell r.settings.now r.sections.items r.section r.text.line (r.text.begun ++ [])) sound
     ∙ end_spells r.settings.now r.sections.items r.section r.text.line r.text.begun (rw (← last.ensures.line) last.ensures.one_line) (rw (← last.ensures.line) c.in-None.ensures)
-    ∙ ap (λ (script : Script). Ok script) (sym c.script_of_sections.ensures))
+    ∙ ap (λ (script : ScriptSections). Ok script) (sym c.script_of_sections.ensures))
 
 pub returns-in-None-clause-in_range : goal.returns-in-None-clause-in_range
 returns-in-None-clause-in_range c =

@@ -22,8 +22,8 @@ add_fast-requires-in-Ok c =
     let l = c.loop-text in
     let after : c.next_line.new.self ≡ after_line l.text = search rules in
     let counted : IsCounted c.next_line.new.rest.now c.next_line.new.self = search rules in
-    line_inside c.self.inside.settings.now l.sections.items c.add.new.sections.items l.section c.section_after-section.result l.text c.next_line.new.self l.rest.now c.next_line.new.rest.now c.as_slice.result.now c.in-Ok.statement
-    l.invariant.inside c.in-Ok.ensures c.in_ok-add-in-Ok.ensures.added c.section_after-section.ensures after counted
+    line_inside c.self.inside.settings.now l.sections.items c.add.new.sections.items l.section c.section_after-next.result l.text c.next_line.new.self l.rest.now c.next_line.new.rest.now c.as_slice.result.now c.in-Ok.statement
+    l.invariant.inside c.in-Ok.ensures c.in_ok-add-in-Ok.ensures.added c.section_after-next.ensures after counted
 
 pub loop-text-preserved : goal.loop-text-preserved
 loop-text-preserved c =
@@ -33,8 +33,8 @@ loop-text-preserved c =
     let lines : (more : Text) → lines_of (l.text.begun ++ (l.rest.now ++ more)) ≡ line ∷ lines_of (c.next_line.new.rest.now ++ more) = search rules in
     record {
       spelled = λ more. c.in_ok-rest-in-Ok.ensures.spelled more
-          ∙ line_spelled c.self.inside.settings.now l.sections.items c.add.new.sections.items l.section c.section_after-section.result l.text c.next_line.new.self l.rest.now c.next_line.new.rest.now line c.in-Ok.statement
-          lines c.in-Ok.ensures c.in_ok-add-in-Ok.ensures.added c.section_after-section.ensures after more
+          ∙ line_spelled c.self.inside.settings.now l.sections.items c.add.new.sections.items l.section c.section_after-next.result l.text c.next_line.new.self l.rest.now c.next_line.new.rest.now line c.in-Ok.statement
+          lines c.in-Ok.ensures c.in_ok-add-in-Ok.ensures.added c.section_after-next.ensures after more
           ∙ l.invariant.spelled more;
       inside = c.in_ok-rest-in-Ok.ensures.inside;
     }

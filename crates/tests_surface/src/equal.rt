@@ -1,0 +1,8 @@
+//! Results compared with the expected ones.
+use std::fmt::Debug;
+use std::process::Abort;
+
+// The result of a call is this.
+pub(crate) fn expect_equal<T: PartialEq + Debug + Drop>(rt: &impl Abort, told: T, want: T) {
+    assert!(rt; told == want, "{told:?}, not {want:?}");
+}
