@@ -5,6 +5,7 @@ of its own, into linux/out/kernels; those that are there are used again.
 
 On each kernel the programs that read queues and those of the recorder load, random scripts agree, queues among them, readers of
 queues with injected bugs are found, a recording is legal, and docs/LINUX.md has the kernel's column of known differences, if it has one.
+Where libthp and setpriv are, thpwhatif (Linux 6.12) needs three capabilities, and names each that is missing.
 The judges are thpsplit and thpcheck where they are built, else the plain reading of the model. A kernel that can't be
 had is skipped, and named.
 """
@@ -12,6 +13,7 @@ had is skipped, and named.
 from __future__ import annotations
 
 import re
+import shutil
 import subprocess
 import unittest
 from pathlib import Path
@@ -24,6 +26,9 @@ PROGRAM = "" if program.find("thpsplit", program.BUILT) else "--program linux/te
 CHECKER = "" if program.find("thpcheck", checker.BUILT) else "--checker linux/tests/plain_checker.py"
 SCRIPTS = 10
 STEPS = 600  # of a recording
+RIGHTS = ("bpf", "perfmon", "sys_ptrace")
+LOOKED_AT = """python3 -c 'import mmap, time; area = mmap.mmap(-1, 8 << 20, mmap.MAP_PRIVATE | mmap.MAP_ANONYMOUS); area.madvise(14)
+area.write(b"1" * (8 << 20)); time.sleep(600)' & sleep 5"""  # a process with huge pages
 MIRROR, KEYS = "http://deb.debian.org/debian", "/usr/share/keyrings/debian-archive-keyring.gpg"
 
 
@@ -50,6 +55,13 @@ def fetch_kernel(suite: str) -> Path | None:
     return next(place.glob("*.deb"), None)
 
 
+def looks_with_rights() -> str:
+    """Returns a command that looks at a process with three capabilities, and without each of them."""
+    kept = (["-all", *(f"+{name}" for name in RIGHTS if name != missing)] for missing in ("", *RIGHTS))
+    looks = (f"setpriv --inh-caps=-all --bounding-set={','.join(each)} thpwhatif now --pid $!; echo ended $?" for each in kept)
+    return f"{{ {LOOKED_AT}; {'; '.join(looks)}; kill $!; }}"
+
+
 class KernelTests(unittest.TestCase):
     def test_bookworm(self) -> None:
         self.try_kernel("bookworm", "--page-orders 9")  # Linux 6.1 has no others
@@ -70,11 +82,15 @@ class KernelTests(unittest.TestCase):
             "recording": f"thprecord {CHECKER} --require 50 --own 1,{STEPS},1",
             "letters": f"uname -r; thpreplay {PROGRAM} --fingerprint",
         }
+        setpriv = shutil.which("setpriv")
+        has_looks = bool(setpriv) and (ROOT / "linux/out/predict.so").exists() and not shape
+        if has_looks:
+            commands["rights"] = looks_with_rights()
         script = "; ".join(f"echo == {name}; {command} 2>&1; echo status $?" for name, command in commands.items())
         package = fetch_kernel(suite)
         if not package:
             self.skipTest(f"the kernel of {suite} can't be downloaded")
-        words = ["--numa", str(numa_nodes), str(package), "--", "sh", "-c", script]
+        words = ["--numa", str(numa_nodes), *(["--file", str(setpriv)] if has_looks else []), str(package), "--", "sh", "-c", script]
         shown = ""
         with subprocess.Popen([VM, *words], cwd=ROOT, stdin=subprocess.DEVNULL, stdout=subprocess.PIPE,
                               stderr=subprocess.STDOUT, text=True, errors="replace") as tool:
@@ -88,7 +104,10 @@ class KernelTests(unittest.TestCase):
         found = dict(re.findall(r"^== (\w+)\n(.*?)^status \d+$", shown, re.MULTILINE | re.DOTALL))
         statuses = dict(zip(found, map(int, re.findall(r"^status (\d+)$", shown, re.MULTILINE))))
         wanted = {"scripts": DONE, "reverse": DIFFERS, "other": DIFFERS, "recording": DONE, "letters": DONE}
-        self.assertEqual(statuses, wanted)
+        self.assertEqual(statuses, {**wanted, **({"rights": DONE} if has_looks else {})})
+        if has_looks:  # CAP_PERFMON is enough to read others since Linux 6.13
+            last = "CAP_SYS_PTRACE.*ended 77" if suite == "trixie" else "ended 0"
+            self.assertRegex(found["rights"], f"(?s)ended 0\n.*CAP_BPF.*ended 77\n.*CAP_PERFMON.*ended 77\n.*{last}\n")
         for name, pattern in (("scripts", rf"\b{SCRIPTS} agrees\n"), ("scripts", r"[1-9][0-9]* queues compared\n"),
                               ("recording", r"^legal.*\n(.*\n)* *[1-9][0-9]* queues compared")):
             self.assertRegex(found[name], re.compile(pattern, re.MULTILINE))
