@@ -34,6 +34,9 @@ SUITES, MIRROR = ("bookworm", "bullseye"), "http://deb.debian.org/debian"
 INCLUDED = "gcc,libc6-dev,pkg-config,cmake,make,python3,xz-utils"
 """The packages that the root has beside the essential ones, and libbpf1, which Debian 11 lacks."""
 
+INCONCLUSIVE = 4
+"""The status of a look at all processes that names one which it can't read."""
+
 SECONDS = 1800
 """The greatest time that one command may take."""
 
@@ -232,11 +235,13 @@ class Root:
         return self.looks("bin/thpwhatif now --all")
 
     def looks(self, script: str) -> str | None:
-        """What is wrong with the table that a script as root prints about the running system."""
+        """What is wrong with the table that a script as root prints about the running system. Where even root can't read a process, the
+        tool names it, with status 4."""
         done = self.run(f"mount -t proc proc /proc; mount -t sysfs sysfs /sys\n{script}", "0:0")
         if done.returncode == SKIPPED:
             raise Missing(done.stderr.strip()[-200:])
-        is_table = done.returncode == 0 and "threshold  pages split" in done.stdout
+        has_unread = done.returncode == INCONCLUSIVE and "\nNOT READ: process " in done.stdout
+        is_table = (done.returncode == 0 or has_unread) and "threshold  pages split" in done.stdout
         return None if is_table else f"status {done.returncode}: {(done.stdout + done.stderr).strip()[-400:]}"
 
     def files(self) -> set[str]:
