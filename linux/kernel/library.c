@@ -86,6 +86,9 @@ static int count_arguments(const struct btf *types, const char *tracepoint)
 	return btf_vlen(btf__type_by_id(types, type->type)) - 1;
 }
 
+/* Types are looked up in the kernel alone. libbpf's default is to look for one that it lacks in its modules, which needs CAP_SYS_ADMIN. */
+static const struct bpf_object_open_opts kernel_alone = { .sz = sizeof(kernel_alone), .btf_custom_path = "/sys/kernel/btf/vmlinux" };
+
 /* readers of kernel memory */
 
 /* Returns the programs, loaded; NULL where they are refused. */
@@ -95,7 +98,11 @@ struct memory_bpf *thp_memory_open(char *problem, size_t size)
 
 	if (!begin_messages())
 		return NULL;
-	programs = memory_bpf__open_and_load();
+	programs = memory_bpf__open_opts(&kernel_alone);
+	if (programs && memory_bpf__load(programs)) {
+		memory_bpf__destroy(programs);
+		programs = NULL;
+	}
 	end_messages(problem, size);
 	return programs;
 }
@@ -194,7 +201,7 @@ struct recorder *thp_record_open(const struct thp_settings *settings, char *prob
 	if (!recorder || !begin_messages())
 		return NULL;
 	kernel = btf__load_vmlinux_btf();
-	programs = recorder->programs = kernel ? record_bpf__open() : NULL;
+	programs = recorder->programs = kernel ? record_bpf__open_opts(&kernel_alone) : NULL;
 	fits = programs && configure(programs, settings, kernel);
 	btf__free(kernel);	/* several MiB, and loading has a copy of its own */
 	if (fits && !record_bpf__load(programs) && !record_bpf__attach(programs))
