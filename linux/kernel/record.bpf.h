@@ -9,7 +9,9 @@ const volatile bool has_collapse_order;		/* an argument of a tracepoint, since L
 
 struct thp_counters counters;
 
-enum { SPACES = 8192, HOMES = 65536, TRACKED = 65536, BLOCKS = 4096, RANGE = 32, INNER_LEVELS = 8, TRIES = 3, LARGE = 512 };
+enum { CHARGED_TO = ~7, SPACES = 8192, HOMES = 65536, TRACKED = 65536, BLOCKS = 4096, RANGE = 32, INNER_LEVELS = 8, TRIES = 3, LARGE = 512 };
+
+struct thp_function { __u64 began, was_linked; };	/* 0: it doesn't run, or not for us; whether its page was in the queue */
 
 struct thp_task {
 	__u64 address, code;	/* its last fault; 0: a call began since */
@@ -19,6 +21,7 @@ struct thp_task {
 	bool has_entered;	/* the begin of its call was sent */
 	bool has_left;		/* the end of its call was sent */
 	bool scans;
+	struct thp_function functions[KINDS - QUEUED];
 };
 
 struct thp_space {

@@ -48,6 +48,7 @@ class Doubt(Reason):
     LONG_QUEUE = "more than 500 pages in the queue, for which copies have no room", Origin.LIMIT, SHORT
     OVERLAP = "scans that overlap: their order isn't known", Origin.LIMIT, FEWER
     MISSING = "scans that no copy of the queue shows", Origin.LIMIT, FEWER
+    CONTRADICTED = "events that observation contradicts", Origin.LIMIT, FEWER
     QUEUES = "copies of the queue differ where its order isn't known", Origin.LIMIT, FEWER
 
 
@@ -82,6 +83,9 @@ class Count(Reason):
     REVERSED = "scans that put back two pages or more, in reverse order (E)", Origin.KERNEL
     ZEROS_BACK = "splits that gave mapped zero-filled subpages back with the switch off (B)", Origin.KERNEL
     HELD_BY_SCAN = "last unmaps while a scan held the page (R)", Origin.KERNEL
+    OBSERVED = "joins and tries observed as inferred"
+    UNTRIED = "pages put back without a try, as observed: another task held their lock", Origin.KERNEL
+    DROPPED = "underused pages dropped since their split failed, as observed (F)", Origin.KERNEL
     SCANS = "scans"
     SCANS_MISSING = "scans that no copy of the queue shows", Origin.LIMIT, FEWER
     COPIES_MISSING = "copies that have no room for more than 500 pages of the queue", Origin.LIMIT, SHORT

@@ -42,9 +42,16 @@ class Kind(enum.IntEnum):
     COLLAPSED = 10  # a region has become a huge page (mm, 1, its folio, its index)
     MOVED = 11  # a page is mapped again by a migration, or by a split that failed (address, folio, order)
     CONTENTS = 12  # this tool looked at a page (folio, when the look began); with the subpages with data and the zero-filled ones
+    # a function of the kernel has returned (folio, when it began, its result, whether the page was in a list: 1 before, 2 after)
+    QUEUED = 13  # deferred_split_folio; the next value: whether the page is partly mapped
+    UNQUEUED = 14  # __folio_unqueue_deferred_split: 1, the page was in the queue
+    BATCH = 15  # deferred_split_scan (folio 0)
+    TRIED = 16  # __folio_split, or split_huge_page_to_list_to_order: 0, the page is split; the next value: when its scan began, or 0
 
 
 WITH_QUEUE = frozenset([Kind.EXIT, Kind.EXIT_MMAP, Kind.SCAN, Kind.SCANNED, Kind.COLLAPSED])
+OBSERVED = frozenset([Kind.QUEUED, Kind.UNQUEUED, Kind.BATCH, Kind.TRIED])
+JOINED = 2  # of whether a page was in a list: after the call alone
 IN_FAULT = 1
 _KINDS = tuple(Kind)
 _SUBPAGES = (1 << 23) - 1  # of _nr_pages_mapped: the bits above it tell whether a PMD entry maps the page
@@ -178,6 +185,8 @@ class _Linker:
 
     def see(self, at: int, record: Record) -> None:
         """Takes the next record."""
+        if record.kind in OBSERVED:
+            return
         kind, task, values = record.kind, record.task, record.values
         if self._torn and record.queue is not None and record.time > self._torn_time:
             for end in self._torn:

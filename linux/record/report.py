@@ -20,6 +20,7 @@ from .scratch import ScratchFile
 from .state import MOST_BLOCKS
 
 SHOWN = 300  # letters of a line that is printed
+MOST_SHOWN = 5  # events that observation contradicts
 
 
 class JournalFile(ScratchFile):
@@ -93,6 +94,7 @@ class Report:
         pages, left_out = sum(builder.pages for builder in builders), sum(builder.left_out for builder in builders)
         tallies: Tallies[Reason] = Tallies(recording.doubts)
         counts = Tallies({"pages": pages, "events": journal.events, "records": sum(track.store.count for track in recording.tracks)})
+        contradictions = compare_with_observed(builders)
         for builder in builders:
             tallies.update(builder.tallies)
             counts.update({f"events {word}": many for word, many in builder.event_counts.items()})
@@ -101,7 +103,7 @@ class Report:
         status, words, why = self._judge(tallies, builders, journal)
         share = f"{100 * (pages - left_out) / max(1, pages):.1f} %"
         print(f"{words}: {pages - left_out} of {pages} pages followed ({share}), {journal.events} events")
-        for line in why:
+        for line in (*why, *contradictions[:MOST_SHOWN]):
             print(f"    {line}")
         for title, kind in (("left out, pages:", Omission), ("counted:", Count)):
             found = [reason for reason in kind if tallies[reason]]
@@ -134,6 +136,15 @@ class Report:
         if letters and self._is_strict:
             return DIFFERS, f"differs by {' '.join(letters)}", []
         return DONE, "legal" + (f" but for {' '.join(letters)}" if letters else ""), []
+
+
+def compare_with_observed(builders: Sequence[JournalBuilder]) -> list[str]:
+    """Compares the journal with what function tracing observed, if it did; returns the contradictions, which the builders count."""
+    at, contradictions = 1, []
+    for builder in builders if any(builder.observations.count for builder in builders) else ():
+        at, found = builder.compare_with_observed(at + 1)
+        contradictions += found
+    return contradictions
 
 
 def doubt_at(builders: Sequence[JournalBuilder], line: int) -> Doubt | None:
