@@ -16,7 +16,7 @@ from typing import Iterable
 from ..common.files import BASE, PMD_ORDER
 from ..common.subpages import runs
 from .calls import COLLAPSE, COPIED, MADVISE, MADV_COLLAPSE, has_succeeded
-from .observed import Comparison, Observations
+from .observed import Observations
 from .reasons import Count, Doubt, Omission
 from .records import IN_FAULT, OBSERVED, QUEUE_MOST, WITH_QUEUE, Kind, Record
 from .scans import ScanEvents
@@ -37,8 +37,10 @@ class JournalBuilder(ScanEvents):
     def add_records(self, records: Iterable[Record]) -> None:
         """Adds all records of a run; a Store has linked them."""
         for record in records:
-            if record.kind in OBSERVED:
-                self._observe(record)
+            if record.kind in OBSERVED:  # none of these changes the journal
+                page, scan = self.at.get(record.values[0]), self.scans.get(record.task)
+                is_ordered = scan and len(self.scans) == 1 and not self.is_doubted
+                self.observations.add(record, page.number if page else None, scan.start.queue if scan and is_ordered else None)
                 continue
             self.now, self.task = record.time, record.task
             self.ends.update(record.space_ends or {})
@@ -52,23 +54,6 @@ class JournalBuilder(ScanEvents):
                 self._end_last_step(record)
             if not record.is_applied:
                 getattr(self, f"handle_{record.kind.name.lower()}")(record)
-
-    def close(self) -> None:
-        """Removes its files."""
-        self.lines.close()
-        self.observations.close()
-
-    def _observe(self, record: Record) -> None:
-        """Notes what function tracing has observed: none of it changes the journal."""
-        page, scan = self.at.get(record.values[0]), self.scans.get(record.task)
-        is_ordered = scan and len(self.scans) == 1 and not self.is_doubted
-        self.observations.add(record, page.number if page else None, scan.start.queue if scan and is_ordered else None)
-
-    def compare_with_observed(self, number: int) -> tuple[int, list[str]]:
-        """Compares the journal with what was observed; `number`: that of the line before the journal's first. Returns that of its last
-        line, and the contradictions."""
-        comparison = Comparison(self.observations, self._omitted, self.underused is not None and self.order == PMD_ORDER, self.tallies)
-        return comparison.walk(self.lines, number), comparison.contradictions
 
     def _end_last_step(self, record: Record) -> None:
         """Ends what a task's last record has begun: its next record shows that it is over."""

@@ -48,7 +48,6 @@ class Doubt(Reason):
     LONG_QUEUE = "more than 500 pages in the queue, for which copies have no room", Origin.LIMIT, SHORT
     OVERLAP = "scans that overlap: their order isn't known", Origin.LIMIT, FEWER
     MISSING = "scans that no copy of the queue shows", Origin.LIMIT, FEWER
-    CONTRADICTED = "events that observation contradicts", Origin.LIMIT, FEWER
     QUEUES = "copies of the queue differ where its order isn't known", Origin.LIMIT, FEWER
 
 
@@ -84,6 +83,7 @@ class Count(Reason):
     ZEROS_BACK = "splits that gave mapped zero-filled subpages back with the switch off (B)", Origin.KERNEL
     HELD_BY_SCAN = "last unmaps while a scan held the page (R)", Origin.KERNEL
     OBSERVED = "joins and tries observed as inferred"
+    CONTRADICTED = "events that observation contradicts", Origin.LIMIT, FEWER
     UNTRIED = "pages put back without a try, as observed: another task held their lock", Origin.KERNEL
     DROPPED = "underused pages dropped since their split failed, as observed (F)", Origin.KERNEL
     SCANS = "scans"

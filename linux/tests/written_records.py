@@ -159,7 +159,7 @@ class JournalCase(unittest.TestCase):
     def build(self, store: Store, threshold: int | None = None) -> JournalBuilder:
         """Returns the journal of records, and closes their store."""
         builder = JournalBuilder(9, threshold)
-        self.addCleanup(builder.close)
+        self.addCleanup(builder.lines.close)
         with closing(store):
             builder.add_records(store.records())
         return builder
