@@ -1,5 +1,4 @@
-"""What function tracing observes of a queue, and its comparison with the journal, which is inferred without it: the order of joins and
-put-backs, and which pages each scan tried, with what result."""
+"""What function tracing observes of a queue, and its comparison with the journal, which is inferred without it."""
 
 from __future__ import annotations
 
@@ -12,12 +11,10 @@ from .records import JOINED, Kind, Record
 from .state import State
 
 SLACK = 2 * 10 ** 9  # ns by which an observation may be recorded after the line that it belongs to
-SHOWN = 60  # letters of a line
 
 
 class Observation(NamedTuple):
-    """A page's join or try, and between which times it was; of a try those of its scan, whether it failed, and whether that page wasn't
-    the next one of the queue."""
+    """A page's join or try, by whose `end` it was. A try has the times of its scan. `is_misplaced`: other pages came before it."""
 
     page: int
     is_try: int
@@ -28,7 +25,7 @@ class Observation(NamedTuple):
 
 
 class Observations:
-    """Those of a recording. `contradictions`: of events that these contradict the line, from 1, and what to print."""
+    """Those of a recording. `contradictions`: the lines, from 1, of events that these contradict, and what was observed."""
 
     def __init__(self) -> None:
         self.numbers = array("Q")
@@ -43,8 +40,7 @@ class Observations:
         folio, begin, result, linked, scan = record.values[:5]
         if record.kind is Kind.BATCH:
             known = queue if queue and queue is not self._queue else []
-            self._queue = known or self._queue
-            tries = self._tries.pop(record.task, [])
+            self._queue, tries = known or self._queue, self._tries.pop(record.task, [])
             places = [known.index(folio) for _, folio, _ in tries if folio in known]
             is_misplaced = places not in (sorted(places), sorted(places, reverse=True))
             for each, _, failed in tries:
@@ -66,9 +62,9 @@ class Observations:
                 at += size
             page = int(text.split(" ", 3)[2])
             if not state.omitted[page]:
-                wrong = self._compare(state, number, time, text, *pages[page])
-                if wrong:
-                    self.contradictions.append((number, f"line {number}: {text[:SHOWN]}: observed: {wrong}"))
+                observed = self._compare(state, number, time, text, *pages[page])
+                if observed:
+                    self.contradictions.append((number, observed))
                     contradicted.add(page)
                 number += 1
             if " freed " in text:
@@ -78,7 +74,7 @@ class Observations:
         return number
 
     def _compare(self, state: State, number: int, time: int, text: str, joins: deque[Observation], tries: deque[Observation]) -> str:
-        """Compares an event; returns what was observed instead, if anything."""
+        """Compares an event with its page's observations; returns what was observed instead, if anything."""
         caller, word, _, *rest = text.split(" ")
         found = None
         if "queued" in rest or (word == "alloc" and state.underused is not None):
@@ -92,22 +88,21 @@ class Observations:
         elif word in ("split", "pinned", "used"):
             found = tries.popleft() if tries and tries[0].begin <= time else None
             if not found or word == "used":
-                state.tallies[Count.UNTRIED] += word == "pinned"  # another task held the page's lock
+                is_requeued = word == "pinned" and bool(joins) and joins.popleft().end <= time
+                state.tallies[Count.REQUEUED if is_requeued else Count.UNTRIED] += word == "pinned"
                 state.tallies[Count.DROPPED] += bool(found and found.failed)
                 return "it was split" if found and not found.failed else "it wasn't split" if word == "split" else ""
             if found.failed != (word == "pinned"):
                 return "its split failed" if found.failed else "it was split"
-            if found.is_misplaced:
-                return "it was tried in another order than the queue's"
-            if self._scans.setdefault(caller, found.begin) != found.begin:
-                return "another scan tried it"
+            if found.is_misplaced or self._scans.setdefault(caller, found.begin) != found.begin:
+                return "it was tried in another order than the queue's" if found.is_misplaced else "another scan tried it"
+            while joins and found.begin <= joins[0].begin <= found.end:
+                joins.popleft()  # a call queued it while it was tried (Linux 7); it is split, or back already
         elif "freed" in rest and any(each.end < time and not each.failed for each in (*joins, *tries)):
             return "it was queued or split before"
-        if not found:
-            return ""
-        if word != "split":  # its place among joins doesn't matter
+        if found and word != "split":  # the place of a split among joins doesn't matter
             if found.end < self._latest[0]:
                 return f"it was before the event of line {self._latest[1]}"
             self._latest = max(self._latest, (found.begin, number))
-        state.tallies[Count.OBSERVED] += 1
+        state.tallies[Count.OBSERVED] += found is not None
         return ""

@@ -85,6 +85,7 @@ class Count(Reason):
     OBSERVED = "joins and tries observed as inferred"
     CONTRADICTED = "events that observation contradicts", Origin.LIMIT, FEWER
     UNTRIED = "pages put back without a try, as observed: another task held their lock", Origin.KERNEL
+    REQUEUED = "pages found in use by a scan, and queued again while it ran, as observed (U)", Origin.KERNEL
     DROPPED = "underused pages dropped since their split failed, as observed (F)", Origin.KERNEL
     SCANS = "scans"
     SCANS_MISSING = "scans that no copy of the queue shows", Origin.LIMIT, FEWER

@@ -103,7 +103,8 @@ class Report:
         status, words, why = self._judge(tallies, builders, journal)
         share = f"{100 * (pages - left_out) / max(1, pages):.1f} %"
         print(f"{words}: {pages - left_out} of {pages} pages followed ({share}), {journal.events} events")
-        for line in (*why, *(text for _, text in contradictions[:MOST_SHOWN])):
+        why += [f"line {at}: {journal.line(at)}: observed: {what}" for at, what in contradictions[:MOST_SHOWN]]
+        for line in why:
             print(f"    {line}")
         for title, kind in (("left out, pages:", Omission), ("counted:", Count)):
             found = [reason for reason in kind if tallies[reason]]

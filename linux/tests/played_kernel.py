@@ -88,7 +88,7 @@ class PlayedKernel:
         self._record(Kind.ALLOC, task, [folio, 9, IN_FAULT, address, WRITE_FAULT])
         yield
         if self._threshold is not None:
-            self._queue_page(task, page)
+            self._join(page)
             yield
         self._places[address] = page
 
@@ -111,7 +111,7 @@ class PlayedKernel:
             return
         if page.mapped and gone:
             page.is_partly_mapped = True
-            self._queue_page(task, page)
+            self._join(page)
         yield
         self._put(task, page)
 
@@ -121,10 +121,6 @@ class PlayedKernel:
             yield
         page.pins = 0
         self._put(task, page)
-
-    def _queue_page(self, _task: int, page: PlayedPage) -> None:
-        """deferred_split_folio"""
-        self._join(page)
 
     def _join(self, page: PlayedPage) -> None:
         if not page.is_listed:
@@ -189,17 +185,15 @@ class PlayedKernel:
             self._let_go(page)
         self._record(Kind.SCANNED, SCANNER, [0, split], True)
 
-    def is_underused(self, page: PlayedPage) -> bool:
-        """Returns whether a page has too many zero-filled subpages."""
-        return self._threshold is not None and not page.is_partly_mapped and size(EVERY & ~page.data) > self._threshold
-
     def _let_go(self, page: PlayedPage) -> None:
         page.is_held = False
         self._put(SCANNER, page)
 
     def _try(self, page: PlayedPage) -> tuple[bool, bool]:
         """Returns whether a page was split, and whether it is put back."""
-        if not page.is_partly_mapped and not self.is_underused(page):
+        zeros = size(EVERY & ~page.data)
+        underused = self._threshold is not None and not page.is_partly_mapped and zeros > self._threshold
+        if not page.is_partly_mapped and not underused:
             return False, False
         if page.pins or not page.mapped:
             return False, page.is_partly_mapped

@@ -4,7 +4,8 @@ of its own, into linux/out/kernels; those that are there are used again.
     python3 linux/tests/run.py -p vm_trials.py [-k bookworm]
 
 On each kernel the programs that read queues and those of the recorder load, random scripts agree, queues among them, readers of
-queues with injected bugs are found, a recording is legal, and docs/LINUX.md has the kernel's column of known differences, if it has one.
+queues with injected bugs are found, a recording is legal, and as traced functions show it, and docs/LINUX.md has the kernel's column
+of known differences, if it has one.
 The judges are thpsplit and thpcheck where they are built, else the plain reading of the model. A kernel that can't be
 had is skipped, and named.
 """
@@ -18,6 +19,7 @@ from pathlib import Path
 
 from ..common import checker, program
 from ..common.errors import DIFFERS, DONE, SKIPPED
+from ..record.reasons import Count
 from .cases import DOCUMENT, ROOT, VM, find_wrong
 
 PROGRAM = "" if program.find("thpsplit", program.BUILT) else "--program linux/tests/plain_program.py"
@@ -52,16 +54,16 @@ def fetch_kernel(suite: str) -> Path | None:
 
 class KernelTests(unittest.TestCase):
     def test_bookworm(self) -> None:
-        self.try_kernel("bookworm", "--page-orders 9")  # Linux 6.1 has no others
+        self.try_kernel("bookworm", "inferred", "--page-orders 9")  # Linux 6.1 has no others
 
     def test_trixie(self) -> None:
-        self.try_kernel("trixie")
+        self.try_kernel("trixie", "observed")
 
     def test_trixie_backports(self) -> None:
-        self.try_kernel("trixie-backports", numa_nodes=2)
+        self.try_kernel("trixie-backports", "observed", numa_nodes=2)
 
-    def try_kernel(self, suite: str, shape: str = "", numa_nodes: int = 1) -> None:
-        """Runs all commands on a kernel, and judges each."""
+    def try_kernel(self, suite: str, source: str, shape: str = "", numa_nodes: int = 1) -> None:
+        """Runs all commands on a kernel, and judges each. `source`: of what a recording has of joins and splits."""
         replay = f"{PROGRAM} --quiet --node-counts 1,2 --queue-lengths 2,4,8,20 {shape}"
         commands = {
             "scripts": f"thpreplay {replay} --random {SCRIPTS}",
@@ -90,7 +92,10 @@ class KernelTests(unittest.TestCase):
         wanted = {"scripts": DONE, "reverse": DIFFERS, "other": DIFFERS, "recording": DONE, "letters": DONE}
         self.assertEqual(statuses, wanted)
         for name, pattern in (("scripts", rf"\b{SCRIPTS} agrees\n"), ("scripts", r"[1-9][0-9]* queues compared\n"),
-                              ("recording", r"^legal.*\n(.*\n)* *[1-9][0-9]* queues compared")):
+                              ("recording", r"^legal.*\n(.*\n)* *[1-9][0-9]* queues compared"),
+                              ("recording", rf"^joins and splits: {source}")):
             self.assertRegex(found[name], re.compile(pattern, re.MULTILINE))
+        self.assertEqual(f" {Count.OBSERVED.text} " in found["recording"], source == "observed")
+        self.assertNotIn(Count.CONTRADICTED.text, found["recording"])
         release, _, letters = found["letters"].partition("\n")
         self.assertIsNone(find_wrong(release.strip(), letters, DOCUMENT.read_text(encoding="utf-8")))
