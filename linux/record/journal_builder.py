@@ -39,7 +39,8 @@ class JournalBuilder(ScanEvents):
         for record in records:
             if record.kind in OBSERVED:  # none of these changes the journal
                 page, scan = self.at.get(record.values[0]), None if self.is_doubted else self.scans.get(record.task)
-                self.observations.add(record, page.number if page else None, scan.start.queue if scan and len(self.scans) == 1 else None)
+                is_ordered = scan and len(self.scans) == len(scan.batches) == 1
+                self.observations.add(record, page.number if page else None, scan.start.queue if scan and is_ordered else None)
                 continue
             self.now, self.task = record.time, record.task
             self.ends.update(record.space_ends or {})

@@ -30,17 +30,15 @@ class Observations:
     def __init__(self) -> None:
         self.numbers = array("Q")
         self._tries: dict[int, list[tuple[int, int, int]]] = defaultdict(list)  # of scans that run, by task: page, folio, result
-        self._queue: list[int] = []  # that the last scan began with
         self.contradictions: list[tuple[int, str]] = []
         self._latest = 0, 0  # when the last join or put-back began at the earliest, and its line
         self._scans: dict[str, int] = {}  # by callers, when the scan of their batch began
 
     def add(self, record: Record, page: int | None, queue: list[int] | None) -> None:
-        """Takes a record. `page`: the number of the page at its folio; `queue`: that at the begin of the task's scan, where it is known."""
+        """Takes a record. `page`: the number of the page at its folio; `queue`: that before the task's batch, where it is known."""
         folio, begin, result, linked, scan = record.values[:5]
         if record.kind is Kind.BATCH:
-            known = queue if queue and queue is not self._queue else []
-            self._queue, tries = known or self._queue, self._tries.pop(record.task, [])
+            known, tries = queue or [], self._tries.pop(record.task, [])
             places = [known.index(folio) for _, folio, _ in tries if folio in known]
             is_misplaced = places not in (sorted(places), sorted(places, reverse=True))
             for each, _, failed in tries:
@@ -81,8 +79,6 @@ class Observations:
             if not joins:
                 return "it wasn't queued"
             found = joins.popleft()
-            if word == "alloc":
-                found = found._replace(begin=min(time, found.begin))
         elif word == "taken":
             self._scans.pop(caller, None)
         elif word in ("split", "pinned", "used"):
@@ -103,6 +99,6 @@ class Observations:
         if found and word != "split":  # the place of a split among joins doesn't matter
             if found.end < self._latest[0]:
                 return f"it was before the event of line {self._latest[1]}"
-            self._latest = max(self._latest, (found.begin, number))
+            self._latest = max(self._latest, (min(found.begin, time), number))
         state.tallies[Count.OBSERVED] += found is not None
         return ""

@@ -51,8 +51,7 @@ class Kind(enum.IntEnum):
 
 WITH_QUEUE = frozenset([Kind.EXIT, Kind.EXIT_MMAP, Kind.SCAN, Kind.SCANNED, Kind.COLLAPSED])
 OBSERVED = frozenset([Kind.QUEUED, Kind.UNQUEUED, Kind.BATCH, Kind.TRIED])
-JOINED = 2  # of whether a page was in a list: after the call alone
-IN_FAULT = 1
+IN_FAULT, JOINED = 1, 2  # how a page is allocated; it is in a list after the call alone
 _KINDS = tuple(Kind)
 _SUBPAGES = (1 << 23) - 1  # of _nr_pages_mapped: the bits above it tell whether a PMD entry maps the page
 

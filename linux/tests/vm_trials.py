@@ -4,8 +4,7 @@ of its own, into linux/out/kernels; those that are there are used again.
     python3 linux/tests/run.py -p vm_trials.py [-k bookworm]
 
 On each kernel the programs that read queues and those of the recorder load, random scripts agree, queues among them, readers of
-queues with injected bugs are found, a recording is legal, and as traced functions show it, and docs/LINUX.md has the kernel's column
-of known differences, if it has one.
+queues with injected bugs are found, a recording is legal and as observed, and docs/LINUX.md has the kernel's column of differences.
 The judges are thpsplit and thpcheck where they are built, else the plain reading of the model. A kernel that can't be
 had is skipped, and named.
 """
