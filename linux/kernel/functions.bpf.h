@@ -29,46 +29,33 @@ static __always_inline bool is_linked(struct folio *folio)
 static __always_inline int enter(enum kind kind, struct folio *folio, bool is_ours)
 {
 	struct thp_task *state = is_ours ? state_of(bpf_get_current_task_btf()) : 0;
-	struct thp_function *function;
 
-	if (!state)
+	if (!state || state->functions[kind - QUEUED].began)
 		return 0;
-	function = &state->functions[kind - QUEUED];
-	if (function->began)
-		return 0;
-	function->was_linked = is_linked(folio);
-	function->began = bpf_ktime_get_ns();
+	state->functions[kind - QUEUED].was_linked = is_linked(folio);
+	state->functions[kind - QUEUED].began = bpf_ktime_get_ns();
 	return 0;
 }
 
 /* Sends what a function has done. */
-static __always_inline int leave(enum kind kind, struct folio *folio, __u64 more, void *context)
+static __always_inline int leave(enum kind kind, struct folio *folio, bool is_partly, void *context)
 {
 	struct task_struct *task = bpf_get_current_task_btf();
 	struct thp_task *state = bpf_task_storage_get(&tasks, task, 0, 0);
-	struct thp_function *function;
-	__u64 began, result = 0;
+	__u64 began = state ? state->functions[kind - QUEUED].began : 0, batch, links, result = 0;
 
-	if (!state || !state->functions[kind - QUEUED].began)
+	if (!began)
 		return 0;
-	function = &state->functions[kind - QUEUED];
-	began = function->began;
-	function->began = 0;
+	state->functions[kind - QUEUED].began = 0;
+	batch = state->functions[BATCH - QUEUED].began;
+	links = state->functions[kind - QUEUED].was_linked | is_linked(folio) << 1 | is_partly << 2;
 	bpf_get_func_ret(context, &result);
-	return send(kind, task, VALUES((__u64)folio, began, result, function->was_linked | is_linked(folio) << 1, more));
+	return send(kind, task, VALUES((__u64)folio, began, result, links, batch));
 }
 
-/* When the scan began that the task runs; 0: none. */
-static __always_inline __u64 own_batch(void)
-{
-	struct thp_task *state = bpf_task_storage_get(&tasks, bpf_get_current_task_btf(), 0, 0);
-
-	return state ? state->functions[BATCH - QUEUED].began : 0;
-}
-
-#define AT_FUNCTION(name, kind, folio, is_ours, more, arguments...)				\
+#define AT_FUNCTION(name, kind, folio, is_ours, is_partly, arguments...)				\
 	IN_COPIES("fentry/" #name, enter_##name, enter(kind, folio, is_ours), arguments)	\
-	IN_COPIES("fexit/" #name, leave_##name, leave(kind, folio, more, ctx), arguments)
+	IN_COPIES("fexit/" #name, leave_##name, leave(kind, folio, is_partly, ctx), arguments)
 
 /* A page is queued, unless it is already (QUEUED). */
 AT_FUNCTION(deferred_split_folio, QUEUED, folio, is_charged(folio), partly, struct folio *folio, bool partly)
@@ -80,5 +67,5 @@ AT_FUNCTION(__folio_unqueue_deferred_split, UNQUEUED, folio, is_charged(folio), 
 AT_FUNCTION(deferred_split_scan, BATCH, 0, is_own_scan(control), 0, struct shrinker *shrinker, struct shrink_control *control)
 
 /* A split of a page, by whomever (TRIED); before Linux 6.15 it is split_huge_page_to_list_to_order. */
-AT_FUNCTION(__folio_split, TRIED, folio, is_charged(folio), own_batch(), struct folio *folio)
+AT_FUNCTION(__folio_split, TRIED, folio, is_charged(folio), 0, struct folio *folio)
 #endif

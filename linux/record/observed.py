@@ -45,7 +45,7 @@ class Observations:
                 self.numbers.extend((each, 1, failed != 0, is_misplaced, begin, record.time))
         elif page is not None and record.kind is Kind.TRIED and scan:
             self._tries[record.task].append((page, folio, result))
-        elif page is not None and record.kind is Kind.QUEUED and linked == JOINED:
+        elif page is not None and record.kind is Kind.QUEUED and linked & 3 == JOINED:
             self.numbers.extend((page, 0, 0, 0, begin, record.time))
 
     def compare(self, state: State, number: int) -> int:

@@ -42,16 +42,16 @@ class Kind(enum.IntEnum):
     COLLAPSED = 10  # a region has become a huge page (mm, 1, its folio, its index)
     MOVED = 11  # a page is mapped again by a migration, or by a split that failed (address, folio, order)
     CONTENTS = 12  # this tool looked at a page (folio, when the look began); with the subpages with data and the zero-filled ones
-    # a function of the kernel has returned (folio, when it began, its result, whether the page was in a list: 1 before, 2 after)
-    QUEUED = 13  # deferred_split_folio; the next value: whether the page is partly mapped
+    # a function has returned (folio, its begin, its result, bits: in a list before, after, partly mapped; the begin of the task's scan)
+    QUEUED = 13  # deferred_split_folio
     UNQUEUED = 14  # __folio_unqueue_deferred_split: 1, the page was in the queue
     BATCH = 15  # deferred_split_scan (folio 0)
-    TRIED = 16  # __folio_split, or split_huge_page_to_list_to_order: 0, the page is split; the next value: when its scan began, or 0
+    TRIED = 16  # __folio_split, or split_huge_page_to_list_to_order: 0, the page is split
 
 
 WITH_QUEUE = frozenset([Kind.EXIT, Kind.EXIT_MMAP, Kind.SCAN, Kind.SCANNED, Kind.COLLAPSED])
 OBSERVED = frozenset([Kind.QUEUED, Kind.UNQUEUED, Kind.BATCH, Kind.TRIED])
-IN_FAULT, JOINED = 1, 2  # how a page is allocated; it is in a list after the call alone
+IN_FAULT, JOINED = 1, 2  # how a page is allocated; bits of a page that is in a list after the call alone
 _KINDS = tuple(Kind)
 _SUBPAGES = (1 << 23) - 1  # of _nr_pages_mapped: the bits above it tell whether a PMD entry maps the page
 

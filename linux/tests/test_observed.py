@@ -1,4 +1,4 @@
-"""What function tracing observes, compared with the journal: written records, and recordings of Linux 6.12 and 7.3."""
+"""What function tracing observes, compared with the journal: written records, and a recording of Linux 6.12."""
 
 from __future__ import annotations
 
@@ -28,7 +28,6 @@ class ObservedTest(JournalCase):
         split, pinned = "d:begin > 0; d:tried 0; d:free 0 0 8; d:batch; d:end > -", "d:begin > 0; d:tried 0 1; d:batch; d:end > 0"
         rows: list[tuple[str, str, int, list[str]]] = [
             ("all as inferred", f"{one}; {split}", 2, []),
-            ("a pinned page", f"{one}; {pinned}", 2, []),
             ("a locked page", f"{one}; d:begin > 0; d:batch; d:end > 0", 1, []),
             ("no join", f"divided 1; {split}", 1, ["it wasn't queued"]),
             ("no try", f"{one}; {split.replace('d:tried 0; ', '')}", 1, ["it wasn't split"]),
@@ -36,10 +35,9 @@ class ObservedTest(JournalCase):
             ("a page that stays was split", f"{one}; {pinned.replace('tried 0 1', 'tried 0')}", 1, ["it was split"]),
             ("joins in another order", "page 0; page 1; queued 1; drop 0 0 8 > 0; queued 0; drop 1 0 8 > 0 1", 1, ["event of line 6"]),
             ("a page freed after a second join", f"{one}; queued 0; unmap 0 > -", 1, ["it was queued or split before"]),
-            ("a page queued while it is tried", f"{one}; {split.replace('; d', '; queued 0; d', 1)}; free 0 8 504; drop 0 8 504 > -", 2, []),
+            ("a join during a try", f"{one}; {split.replace('; d', '; queued 0; d', 1)}; free 0 8 504; drop 0 8 504 > -", 2, []),
             ("tries in reverse (E)", f"{two}; d:begin > 0 1; d:tried 1 1; d:tried 0 1; d:batch; d:end > 1 0", 4, []),
-            ("tries in another order", f"{three}; d:begin > 0 1 2; d:tried 1 1; d:tried 2 1; d:tried 0 1; d:batch; d:end > 0 2 1", 3,
-             ["in another order than the queue's"] * 3),
+            ("another order", f"{three}; d:begin > 0 1 2; d:tried 1 1; d:tried 2 1; d:tried 0 1; d:batch; d:end > 0 2 1", 3, ["the queue's"] * 3),
             ("two scans", f"{two}; d:begin > 0 1; d:tried 1 1; d:batch; d:tried 0 1; d:batch 2; d:end > 1 0", 3, ["another scan tried it"]),
         ]
         for what, records, observed, wanted in rows:
@@ -49,8 +47,6 @@ class ObservedTest(JournalCase):
                 self.assertEqual((builder.tallies[Count.OBSERVED], len(found)), (observed, len(wanted)), found)
                 self.assertTrue(all(map(str.endswith, found, wanted)), found)
 
-    def test_recordings_of_kernels(self) -> None:
-        for name, observed, dropped in (("traced_6_12", 110, 3),):
-            builder = self.build(read_recording(name), 100)
-            self.assertEqual(compare_with_observed([builder]), [])
-            self.assertEqual((builder.tallies[Count.OBSERVED], builder.tallies[Count.DROPPED]), (observed, dropped))
+    def test_a_recording_of_a_kernel(self) -> None:
+        builder = self.build(read_recording("traced_6_12"), 100)
+        self.assertEqual((compare_with_observed([builder]), builder.tallies[Count.OBSERVED]), ([], 110))
