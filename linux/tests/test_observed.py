@@ -37,7 +37,7 @@ class ObservedTest(JournalCase):
             ("a page freed after a second join", f"{one}; queued 0; unmap 0 > -", 1, ["it was queued or split before"]),
             ("a join during a try", f"{one}; {split.replace('; d', '; queued 0; d', 1)}; free 0 8 504; drop 0 8 504 > -", 2, []),
             ("tries in reverse (E)", f"{two}; d:begin > 0 1; d:tried 1 1; d:tried 0 1; d:batch; d:end > 1 0", 4, []),
-            ("another order", f"{three}; d:begin > 0 1 2; d:tried 1 1; d:tried 2 1; d:tried 0 1; d:batch; d:end > 0 2 1", 3, ["the queue's"] * 3),
+            ("order", f"{three}; d:begin > 0 1 2; d:tried 1 1; d:tried 2 1; d:tried 0 1; d:batch; d:end > 0 2 1", 3, ["queue's"] * 3),
             ("two scans", f"{two}; d:begin > 0 1; d:tried 1 1; d:batch; d:tried 0 1; d:batch 2; d:end > 1 0", 3, ["another scan tried it"]),
         ]
         for what, records, observed, wanted in rows:
