@@ -29,33 +29,42 @@ static __always_inline bool is_linked(struct folio *folio)
 static __always_inline int enter(enum kind kind, struct folio *folio, bool is_ours)
 {
 	struct thp_task *state = is_ours ? state_of(bpf_get_current_task_btf()) : 0;
+	struct thp_function *function;
 
-	if (!state || state->functions[kind - QUEUED].began)
+	if (!state)
 		return 0;
-	state->functions[kind - QUEUED].was_linked = is_linked(folio);
-	state->functions[kind - QUEUED].began = bpf_ktime_get_ns();
+	function = &state->functions[kind - QUEUED];
+	if (function->began && function->folio == (__u64)folio)
+		return 0;
+	if (function->began)
+		__sync_fetch_and_add(&counters.missed, 1);	/* the end of its last call */
+	*function = (struct thp_function){ bpf_ktime_get_ns(), (__u64)folio, is_linked(folio) };
 	return 0;
 }
 
 /* Sends what a function has done. */
-static __always_inline int leave(enum kind kind, struct folio *folio, bool is_partly, void *context)
+static __always_inline int leave(enum kind kind, struct folio *folio, bool is_ours, bool is_partly, void *context)
 {
 	struct task_struct *task = bpf_get_current_task_btf();
 	struct thp_task *state = bpf_task_storage_get(&tasks, task, 0, 0);
-	__u64 began = state ? state->functions[kind - QUEUED].began : 0, batch, links, result = 0;
+	struct thp_function *function = state ? &state->functions[kind - QUEUED] : 0;
+	__u64 began, links, result = 0;
 
-	if (!began)
+	if (!function || !function->began) {
+		if (function && function->folio != (__u64)folio && is_ours)
+			__sync_fetch_and_add(&counters.missed, 1);	/* its begin */
 		return 0;
-	state->functions[kind - QUEUED].began = 0;
-	batch = state->functions[BATCH - QUEUED].began;
-	links = state->functions[kind - QUEUED].was_linked | is_linked(folio) << 1 | is_partly << 2;
+	}
+	began = function->began;
+	function->began = 0;
+	links = function->was_linked | is_linked(folio) << 1 | is_partly << 2;
 	bpf_get_func_ret(context, &result);
-	return send(kind, task, VALUES((__u64)folio, began, result, links, batch));
+	return send(kind, task, VALUES((__u64)folio, began, result, links, state->functions[BATCH - QUEUED].began));
 }
 
 #define AT_FUNCTION(name, kind, folio, is_ours, is_partly, arguments...)				\
 	IN_COPIES("fentry/" #name, enter_##name, enter(kind, folio, is_ours), arguments)	\
-	IN_COPIES("fexit/" #name, leave_##name, leave(kind, folio, is_partly, ctx), arguments)
+	IN_COPIES("fexit/" #name, leave_##name, leave(kind, folio, is_ours, is_partly, ctx), arguments)
 
 /* A page is queued, unless it is already (QUEUED). */
 AT_FUNCTION(deferred_split_folio, QUEUED, folio, is_charged(folio), partly, struct folio *folio, bool partly)

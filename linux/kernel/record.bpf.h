@@ -11,7 +11,8 @@ struct thp_counters counters;
 
 enum { CHARGED_TO = ~7, SPACES = 8192, HOMES = 65536, TRACKED = 65536, BLOCKS = 4096, RANGE = 32, INNER_LEVELS = 8, TRIES = 3, LARGE = 512 };
 
-struct thp_function { __u64 began, was_linked; };	/* 0: it doesn't run, or not for us; whether its page was in the queue */
+/* A call of a function: when it began (0: it has ended, or isn't one of ours), its page, and whether that was in the queue. */
+struct thp_function { __u64 began, folio, was_linked; };
 
 struct thp_task {
 	__u64 address, code;	/* its last fault; 0: a call began since */
