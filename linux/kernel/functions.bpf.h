@@ -47,15 +47,17 @@ static __always_inline int leave(enum kind kind, struct folio *folio, bool is_ou
 {
 	struct task_struct *task = bpf_get_current_task_btf();
 	struct thp_task *state = bpf_task_storage_get(&tasks, task, 0, 0);
-	struct thp_function *function = state ? &state->functions[kind - QUEUED] : 0;
+	struct thp_function *function;
 	__u64 began, links, result = 0;
 
-	if (!function || !function->began) {
-		if (function && function->folio != (__u64)folio && is_ours)
-			__sync_fetch_and_add(&counters.missed, 1);	/* its begin */
+	if (!state)
 		return 0;
-	}
+	function = &state->functions[kind - QUEUED];
 	began = function->began;
+	if (!began && function->folio != (__u64)folio && is_ours)
+		__sync_fetch_and_add(&counters.missed, 1);	/* its begin */
+	if (!began)
+		return 0;
 	function->began = 0;
 	links = function->was_linked | is_linked(folio) << 1 | is_partly << 2;
 	bpf_get_func_ret(context, &result);
