@@ -22,7 +22,6 @@ _RANGE = re.compile(r"^ +spanned +([0-9]+)$.*^ +start_pfn: +([0-9]+)$", re.MULTI
 class PageFlag:
     """Bits of /proc/kpageflags that the tools use."""
 
-    ANON = 1 << 12
     SWAPCACHE = 1 << 13
     SWAPBACKED = 1 << 14  # an anonymous page without it was given to MADV_FREE: reclaim drops it whole
     COMPOUND_HEAD = 1 << 15

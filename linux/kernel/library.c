@@ -21,6 +21,8 @@
 #include "record.skel.h"
 
 enum { PIECE = 1 << 18, NAMES = 80 };
+#define SPLIT "__folio_split"
+#define FORMER_SPLIT "split_huge_page_to_list_to_order"	/* before Linux 6.15 */
 
 /* messages */
 
@@ -136,6 +138,7 @@ struct recorder {
 	FILE *file;
 	long count;	/* records that were taken .. */
 	size_t room;	/* .. and bytes that the file may still grow by */
+	int refused;	/* why no functions are traced: an error number; 0: they are */
 };
 
 void thp_record_close(struct recorder *recorder)
@@ -190,24 +193,54 @@ static bool configure(struct record_bpf *programs, const struct thp_settings *se
 	return !bpf_map__set_max_entries(programs->maps.ring, settings->room);
 }
 
-/* Begins a recording; NULL where it can't begin. */
-struct recorder *thp_record_open(const struct thp_settings *settings, char *problem, size_t size)
+/* Leaves out the programs at functions (functions.bpf.h), or fits them to the kernel. */
+static void choose_functions(const struct btf *kernel, const struct bpf_object *object, bool is_refused)
 {
-	struct recorder *recorder = calloc(1, sizeof(*recorder));
+	bool has_split = btf__find_by_name_kind(kernel, SPLIT, BTF_KIND_FUNC) > 0;
+	struct bpf_program *program;
+
+	bpf_object__for_each_program(program, object) {
+		const char *section = bpf_program__section_name(program);
+
+		if (section[0] == 'f' && is_refused)
+			bpf_program__set_autoload(program, false);
+		else if (section[0] == 'f' && !has_split && strstr(section, SPLIT))
+			bpf_program__set_attach_target(program, 0, FORMER_SPLIT);
+	}
+}
+
+/* Loads and attaches the programs. */
+static bool load(struct recorder *recorder, const struct thp_settings *settings, char *problem, size_t size)
+{
 	struct record_bpf *programs;
 	struct btf *kernel;
 	bool fits;
 
-	if (!recorder || !begin_messages())
-		return NULL;
+	if (!begin_messages())
+		return false;
 	kernel = btf__load_vmlinux_btf();
 	programs = recorder->programs = kernel ? record_bpf__open_opts(&kernel_alone) : NULL;
 	fits = programs && configure(programs, settings, kernel);
+	if (fits)
+		choose_functions(kernel, programs->obj, recorder->refused);
 	btf__free(kernel);	/* several MiB, and loading has a copy of its own */
 	if (fits && !record_bpf__load(programs) && !record_bpf__attach(programs))
 		recorder->ring = ring_buffer__new(bpf_map__fd(programs->maps.ring), take_one, recorder, NULL);
 	end_messages(problem, size);
-	if (recorder->ring)
+	return recorder->ring;
+}
+
+/* Begins a recording, without functions where the kernel lacks one or refuses to have them traced; NULL where it can't begin. */
+struct recorder *thp_record_open(const struct thp_settings *settings, char *problem, size_t size)
+{
+	struct recorder *recorder = calloc(1, sizeof(*recorder));
+
+	if (!recorder || load(recorder, settings, problem, size))
+		return recorder;
+	recorder->refused = errno;
+	record_bpf__destroy(recorder->programs);
+	recorder->programs = NULL;
+	if (load(recorder, settings, problem, size))
 		return recorder;
 	thp_record_close(recorder);
 	return NULL;
@@ -237,4 +270,5 @@ int thp_record_take(struct recorder *recorder, int file, size_t room, long *coun
 void thp_record_counters(const struct recorder *recorder, struct thp_counters *counters)
 {
 	*counters = recorder->programs->bss->counters;
+	counters->refused = recorder->refused;
 }

@@ -16,12 +16,13 @@
 #include <bpf/bpf_tracing.h>
 #include "queue.bpf.h"
 #include "record.bpf.h"
+#include "functions.bpf.h"
 
 char LICENSE[] SEC("license") = "Dual MIT/GPL";
 
 enum { MMAP = 9, MPROTECT = 10, MUNMAP = 11, BRK = 12, MREMAP = 25, MADVISE = 28 };	/* x86-64 */
 enum { FIXED = 0x10, NOREPLACE = 0x100000, ERRORS = 4095, WRITTEN = 3 };
-enum { CHARGED_TO = ~7, FRAME_END = 52 };
+enum { FRAME_END = 52 };
 
 /* calls */
 
@@ -365,10 +366,9 @@ static __always_inline int on_moved(int copy, unsigned long address, unsigned lo
 	struct thp_task *state;
 	__u64 frame = entry << (64 - FRAME_END) >> (64 - FRAME_END + BASE_BITS);
 	__u64 page = settings.first_page + frame * bpf_core_type_size(struct page);
-	__u64 charged = READ(((struct folio *)page)->memcg_data) & CHARGED_TO;
 
-	if (charged != settings.group && (__u64)READ(((struct obj_cgroup *)charged)->memcg) != settings.group)
-		return 0;	/* Linux 7 charges it to an obj_cgroup */
+	if (!is_charged((struct folio *)page))
+		return 0;
 	state = state_of(task);
 	if (!state || (copy && state->last == address))
 		return 0;
@@ -425,9 +425,7 @@ static __always_inline int begin_scan(int copy, struct shrinker *shrinker, struc
 	struct task_struct *task = bpf_get_current_task_btf();
 	struct thp_task *state;
 
-	if ((__u64)shrinker->scan_objects != settings.scan_function || (__u64)control->memcg != settings.group)
-		return 0;
-	if (settings.numa_node >= 0 && control->nid != settings.numa_node)
+	if ((__u64)shrinker->scan_objects != settings.scan_function || !is_own_scan(control))
 		return 0;
 	state = state_of(task);
 	if (!state || (copy && state->scans))

@@ -9,7 +9,10 @@ const volatile bool has_collapse_order;		/* an argument of a tracepoint, since L
 
 struct thp_counters counters;
 
-enum { SPACES = 8192, HOMES = 65536, TRACKED = 65536, BLOCKS = 4096, RANGE = 32, INNER_LEVELS = 8, TRIES = 3, LARGE = 512 };
+enum { CHARGED_TO = ~7, SPACES = 8192, HOMES = 65536, TRACKED = 65536, BLOCKS = 4096, RANGE = 32, INNER_LEVELS = 8, TRIES = 3, LARGE = 512 };
+
+/* A call of a function: when it began (0: it has ended, or isn't one of ours), its page, and whether that was in the queue. */
+struct thp_function { __u64 began, folio, was_linked; };
 
 struct thp_task {
 	__u64 address, code;	/* its last fault; 0: a call began since */
@@ -19,6 +22,7 @@ struct thp_task {
 	bool has_entered;	/* the begin of its call was sent */
 	bool has_left;		/* the end of its call was sent */
 	bool scans;
+	struct thp_function functions[KINDS - QUEUED];
 };
 
 struct thp_space {

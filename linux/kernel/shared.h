@@ -8,7 +8,8 @@ enum { PMD_ORDER = 9, BASE_BITS = 12 };
 /* records of a recording: linux/record/records.py, Kind */
 
 enum { QUEUE_MOST = 500, COPIES = 3 };	/* pages of a queue that a record has room for; programs of a tracepoint (record.bpf.h) */
-enum kind { ENTER, EXIT, FAULT, ALLOC, FREE, FORK, EXIT_MMAP, SCAN, SCANNED, COPY, COLLAPSED, MOVED, KINDS };
+enum kind { ENTER, EXIT, FAULT, ALLOC, FREE, FORK, EXIT_MMAP, SCAN, SCANNED, COPY, COLLAPSED, MOVED, CONTENTS,
+	    QUEUED, UNQUEUED, BATCH, TRIED, KINDS };
 enum how { IN_FAULT = 1, IN_NONE = 2 };
 
 struct thp_record {
@@ -35,6 +36,7 @@ struct thp_counters {
 	unsigned long long lost;	/* records that found no room */
 	unsigned long long missed;	/* ends of calls that no program saw */
 	unsigned long long inner_pages;	/* huge pages of groups in the recorded one */
+	unsigned long long refused;	/* why no functions are traced: an error number; 0: they are */
 };
 
 /* readers of kernel memory */

@@ -16,8 +16,9 @@ from typing import Iterable
 from ..common.files import BASE, PMD_ORDER
 from ..common.subpages import runs
 from .calls import COLLAPSE, COPIED, MADVISE, MADV_COLLAPSE, has_succeeded
+from .observed import Observations
 from .reasons import Count, Doubt, Omission
-from .records import IN_FAULT, QUEUE_MOST, WITH_QUEUE, Kind, Record
+from .records import IN_FAULT, OBSERVED, QUEUE_MOST, WITH_QUEUE, Kind, Record
 from .scans import ScanEvents
 from .state import Page
 
@@ -29,12 +30,18 @@ MOVES = 1024  # pages that a task has mapped again before it frees the old ones
 class JournalBuilder(ScanEvents):
     """Builds the events of one node from records: `handle_` and the kind of a record name what takes it."""
 
+    observations: Observations = field(default_factory=Observations)
     _fault_pages: dict[int, Page] = field(default_factory=dict)  # by tasks whose last record was this allocation
     _moves: dict[int, deque[Record]] = field(default_factory=lambda: defaultdict(lambda: deque(maxlen=MOVES)))  # by tasks
 
     def add_records(self, records: Iterable[Record]) -> None:
         """Adds all records of a run; a Store has linked them."""
         for record in records:
+            if record.kind in OBSERVED:  # none of these changes the journal
+                page, scan = self.at.get(record.values[0]), None if self.is_doubted else self.scans.get(record.task)
+                is_ordered = scan and len(self.scans) == len(scan.batches) == 1
+                self.observations.add(record, page.number if page else None, scan.start.queue if scan and is_ordered else None)
+                continue
             self.now, self.task = record.time, record.task
             self.ends.update(record.space_ends or {})
             if record.kind in WITH_QUEUE and record.queue is None and len(self.queue) > QUEUE_MOST:

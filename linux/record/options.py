@@ -36,11 +36,6 @@ def parse_orders(text: str) -> list[int]:
     return orders
 
 
-def parse_threshold(text: str) -> str | int:
-    """Returns the value of --underused: off, as-is or a number."""
-    return text if text in ("off", "as-is") else whole(0, (1 << PMD_ORDER) - 1)(text)
-
-
 def parse_size(text: str) -> int:
     """Returns bytes by their number with K, M, G or T, or without."""
     found = re.fullmatch("([1-9][0-9]{0,11})([KMGT]?)", text)
@@ -77,7 +72,8 @@ def _parser(text: str, name: str) -> OneLineParser:
     add("--program", metavar="PATH", help="the thpsplit to use instead")
     add("--own", type=parse_workload, default="1,300,1", metavar="THREADS,STEPS,SEED[,WORDS]", help="the tool's own workload")
     add("--order", type=parse_orders, default=[PMD_ORDER], metavar="LIST", help="the orders of pages that are followed")
-    add("--underused", type=parse_threshold, default="off", help="off, a threshold, or as-is: leave the machine's setting")
+    add("--underused", type=lambda text: text if text in ("off", "as-is") else whole(0, (1 << PMD_ORDER) - 1)(text), default="off",
+        help="off, a threshold, or as-is: leave the machine's setting")
     add("--enabled", choices=("madvise", "always"), default="madvise", help="which areas get pages of these orders (madvise)")
     add("--every", type=seconds(0, LONG), default=0.02, metavar="SECONDS", help="between two reclaims; 0: none")
     add("--collapse", type=whole(0, 2 ** 32 - 1), metavar="MS", help="khugepaged's pause; long with --own")

@@ -82,6 +82,11 @@ class Count(Reason):
     REVERSED = "scans that put back two pages or more, in reverse order (E)", Origin.KERNEL
     ZEROS_BACK = "splits that gave mapped zero-filled subpages back with the switch off (B)", Origin.KERNEL
     HELD_BY_SCAN = "last unmaps while a scan held the page (R)", Origin.KERNEL
+    OBSERVED = "joins and tries observed as inferred"
+    CONTRADICTED = "events that observation contradicts", Origin.LIMIT, FEWER
+    UNTRIED = "pages put back without a try, as observed: another task held their lock", Origin.KERNEL
+    REQUEUED = "pages found in use by a scan, and queued again while it ran, as observed (U)", Origin.KERNEL
+    DROPPED = "underused pages dropped since their split failed, as observed (F)", Origin.KERNEL
     SCANS = "scans"
     SCANS_MISSING = "scans that no copy of the queue shows", Origin.LIMIT, FEWER
     COPIES_MISSING = "copies that have no room for more than 500 pages of the queue", Origin.LIMIT, SHORT

@@ -197,7 +197,10 @@ class Recorder:
 
 def describe(tracks: list[Track], running: Commands, is_full: bool, ended: str, threshold: int | None) -> Recording:
     """Returns a recording that has ended. Each queue's programs count all huge pages below its group."""
-    lacking, counters = list(tracks[0].lacking), [track.counters() for track in tracks]
+    counters = [track.counters() for track in tracks]
+    refused = errno.errorcode.get(counters[0].refused)
+    source = f"inferred; function tracing is refused: {refused}" if refused else "observed by function tracing"
+    lacking = [f"joins and splits: {source}", *tracks[0].lacking]
     inner = max(each.inner_pages for each in counters)
     if inner:
         lacking.append(f"control groups were made in the recorded one: {inner} huge pages of their tasks aren't followed")

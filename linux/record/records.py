@@ -42,10 +42,16 @@ class Kind(enum.IntEnum):
     COLLAPSED = 10  # a region has become a huge page (mm, 1, its folio, its index)
     MOVED = 11  # a page is mapped again by a migration, or by a split that failed (address, folio, order)
     CONTENTS = 12  # this tool looked at a page (folio, when the look began); with the subpages with data and the zero-filled ones
+    # a function has returned (folio, its begin, its result, bits: in a list before, after, partly mapped; the begin of the task's scan)
+    QUEUED = 13  # deferred_split_folio
+    UNQUEUED = 14  # __folio_unqueue_deferred_split: 1, the page was in the queue
+    BATCH = 15  # deferred_split_scan (folio 0)
+    TRIED = 16  # __folio_split, or split_huge_page_to_list_to_order: 0, the page is split
 
 
 WITH_QUEUE = frozenset([Kind.EXIT, Kind.EXIT_MMAP, Kind.SCAN, Kind.SCANNED, Kind.COLLAPSED])
-IN_FAULT = 1
+OBSERVED = frozenset([Kind.QUEUED, Kind.UNQUEUED, Kind.BATCH, Kind.TRIED])
+IN_FAULT, JOINED = 1, 2  # how a page is allocated; bits of a page that is in a list after the call alone
 _KINDS = tuple(Kind)
 _SUBPAGES = (1 << 23) - 1  # of _nr_pages_mapped: the bits above it tell whether a PMD entry maps the page
 
@@ -178,6 +184,8 @@ class _Linker:
 
     def see(self, at: int, record: Record) -> None:
         """Takes the next record."""
+        if record.kind in OBSERVED:
+            return
         kind, task, values = record.kind, record.task, record.values
         if self._torn and record.queue is not None and record.time > self._torn_time:
             for end in self._torn:

@@ -20,6 +20,7 @@ from .scratch import ScratchFile
 from .state import MOST_BLOCKS
 
 SHOWN = 300  # letters of a line that is printed
+MOST_SHOWN = 5  # events that observation contradicts
 
 
 class JournalFile(ScratchFile):
@@ -90,6 +91,7 @@ class Report:
 
     def judge(self, recording: Recording, builders: Sequence[JournalBuilder], journal: JournalFile) -> int:
         """Prints the verdict, and what was left out and counted; returns the tool's status."""
+        contradictions = compare_with_observed(builders)
         pages, left_out = sum(builder.pages for builder in builders), sum(builder.left_out for builder in builders)
         tallies: Tallies[Reason] = Tallies(recording.doubts)
         counts = Tallies({"pages": pages, "events": journal.events, "records": sum(track.store.count for track in recording.tracks)})
@@ -101,6 +103,7 @@ class Report:
         status, words, why = self._judge(tallies, builders, journal)
         share = f"{100 * (pages - left_out) / max(1, pages):.1f} %"
         print(f"{words}: {pages - left_out} of {pages} pages followed ({share}), {journal.events} events")
+        why += [f"line {at}: {journal.line(at)}: observed: {what}" for at, what in contradictions[:MOST_SHOWN]]
         for line in why:
             print(f"    {line}")
         for title, kind in (("left out, pages:", Omission), ("counted:", Count)):
@@ -136,8 +139,18 @@ class Report:
         return DONE, "legal" + (f" but for {' '.join(letters)}" if letters else ""), []
 
 
-def doubt_at(builders: Sequence[JournalBuilder], line: int) -> Doubt | None:
+def compare_with_observed(builders: Sequence[JournalBuilder]) -> list[tuple[int, str]]:
+    """Compares the journal with what was observed, if anything was; returns the contradictions."""
+    at = 2  # the first node's line
+    for builder in builders if any(builder.observations.numbers for builder in builders) else ():
+        at = builder.observations.compare(builder, at + 1)
+    return [each for builder in builders for each in builder.observations.contradictions]
+
+
+def doubt_at(builders: Sequence[JournalBuilder], line: int) -> Reason | None:
     """Returns why an event of the journal is in doubt, by its line."""
+    if any(each <= line for builder in builders for each, _ in builder.observations.contradictions):
+        return Count.CONTRADICTED
     at = 1
     for builder in builders:
         at += 1  # the node's line

@@ -114,7 +114,7 @@ class JournalLines:
         omitted pages get no number."""
         numbers: dict[int, str] = {}  # of the pages that live, by their numbers in `latest` and in the file
         given = 0
-        for time, text in self._all():
+        for time, text in self.raw():
             caller, word, page, *rest = text.split(" ", 3)
             number = int(page)
             if omitted[number]:
@@ -126,7 +126,8 @@ class JournalLines:
             if rest and rest[0].rpartition(" ")[0].endswith("freed"):
                 del numbers[number]  # this was its last line
 
-    def _all(self) -> Iterator[tuple[int, str]]:
+    def raw(self) -> Iterator[tuple[int, str]]:
+        """Yields the time (ns) and the text of all lines, with the recorder's numbers of pages."""
         with self._file.open_again() as lines:
             for line in lines:
                 time, _, text = line.decode("ascii").rstrip("\n").partition(" ")

@@ -108,6 +108,7 @@ class State:
     lines: JournalLines = field(default_factory=JournalLines)  # the journal
     tallies: dict[Reason, int] = field(default_factory=Tallies)  # what was observed, inferred and left out
     event_counts: dict[str, int] = field(default_factory=Tallies)  # by words
+    omitted: bytearray = field(default_factory=bytearray)  # of each page, whether it is left out
     never_mapped: int = 0  # pages
     left_out: int = 0  # pages, for other reasons
     at: dict[int, Page] = field(default_factory=dict)  # the pages that live, by folio
@@ -123,7 +124,6 @@ class State:
     task: int = 0  # and its task
     _doubts: list[tuple[Doubt, int, int]] = field(default_factory=list)  # why the order of events isn't known, from when to when
     _equal: int = 0  # when a copy of the queue was equal to the journal's
-    _omitted: bytearray = field(default_factory=bytearray)  # of each page, whether it is left out
     _callers: dict[int, int] = field(default_factory=dict)  # the journal's numbers of tasks
     _live: int = 0
     _most: int = 0  # pages that lived at once
@@ -141,11 +141,11 @@ class State:
     @property
     def pages(self) -> int:
         """How many pages were mapped."""
-        return len(self._omitted) - self.never_mapped
+        return len(self.omitted) - self.never_mapped
 
     def timed_texts(self) -> Iterator[tuple[int, str]]:
         """Returns the journal's lines, without the pages that are left out, each after the time (ns) of the record that showed it."""
-        return self.lines.timed_texts(self._omitted)
+        return self.lines.timed_texts(self.omitted)
 
     def texts(self) -> Iterator[str]:
         """Returns the journal's lines, without the pages that are left out."""
@@ -199,8 +199,8 @@ class State:
     def new_page(self, task: int, space: int, folio: int, address: int) -> Page:
         """Adds a page that an address space maps whole."""
         every = bits_of(0, 1 << self.order)
-        page = self.at[folio] = Page(len(self._omitted), folio, 1 << self.order, every, every, self.now)
-        self._omitted.append(False)
+        page = self.at[folio] = Page(len(self.omitted), folio, 1 << self.order, every, every, self.now)
+        self.omitted.append(False)
         mapping = Mapping(space, address & -(BASE << self.order), True, every, self.now)
         page.maps[space] = self.spaces[space][page] = mapping
         self._live += 1
@@ -226,14 +226,14 @@ class State:
     def omit(self, page: Page, why: Omission) -> None:
         """Leaves a page out of the journal."""
         if not page.is_omitted:
-            page.is_omitted = self._omitted[page.number] = True
+            page.is_omitted = self.omitted[page.number] = True
             self.left_out += 1
             self.tallies[why] += 1
 
     def discard(self, page: Page) -> None:
         """Forgets a page that was never mapped: another thread's fault was first."""
         self.left_out -= page.is_omitted
-        page.is_omitted = self._omitted[page.number] = True
+        page.is_omitted = self.omitted[page.number] = True
         self.never_mapped += 1
         self.remove_page(page)
 

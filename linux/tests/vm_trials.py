@@ -4,7 +4,7 @@ of its own, into linux/out/kernels; those that are there are used again.
     python3 linux/tests/run.py -p vm_trials.py [-k bookworm]
 
 On each kernel the programs that read queues and those of the recorder load, random scripts agree, queues among them, readers of
-queues with injected bugs are found, a recording is legal, and docs/LINUX.md has the kernel's column of known differences, if it has one.
+queues with injected bugs are found, a recording is legal and as observed, and docs/LINUX.md has the kernel's column of differences.
 Where libthp and setpriv are, thpwhatif (Linux 6.12) needs three capabilities, and names each that is missing.
 The judges are thpsplit and thpcheck where they are built, else the plain reading of the model. A kernel that can't be
 had is skipped, and named.
@@ -20,6 +20,7 @@ from pathlib import Path
 
 from ..common import checker, program
 from ..common.errors import DIFFERS, DONE, SKIPPED
+from ..record.reasons import Count
 from .cases import DOCUMENT, ROOT, VM, find_wrong
 
 PROGRAM = "" if program.find("thpsplit", program.BUILT) else "--program linux/tests/plain_program.py"
@@ -64,16 +65,16 @@ def looks_with_rights() -> str:
 
 class KernelTests(unittest.TestCase):
     def test_bookworm(self) -> None:
-        self.try_kernel("bookworm", "--page-orders 9")  # Linux 6.1 has no others
+        self.try_kernel("bookworm", "inferred", "--page-orders 9")  # Linux 6.1 has no others
 
     def test_trixie(self) -> None:
-        self.try_kernel("trixie")
+        self.try_kernel("trixie", "observed")
 
     def test_trixie_backports(self) -> None:
-        self.try_kernel("trixie-backports", numa_nodes=2)
+        self.try_kernel("trixie-backports", "observed", numa_nodes=2)
 
-    def try_kernel(self, suite: str, shape: str = "", numa_nodes: int = 1) -> None:
-        """Runs all commands on a kernel, and judges each."""
+    def try_kernel(self, suite: str, source: str, shape: str = "", numa_nodes: int = 1) -> None:
+        """Runs all commands on a kernel, and judges each. `source`: of what a recording has of joins and splits."""
         replay = f"{PROGRAM} --quiet --node-counts 1,2 --queue-lengths 2,4,8,20 {shape}"
         commands = {
             "scripts": f"thpreplay {replay} --random {SCRIPTS}",
@@ -109,7 +110,12 @@ class KernelTests(unittest.TestCase):
             last = "CAP_SYS_PTRACE.*ended 77" if suite == "trixie" else "ended 0"
             self.assertRegex(found["rights"], f"(?s)ended 0\n.*CAP_BPF.*ended 77\n.*CAP_PERFMON.*ended 77\n.*{last}\n")
         for name, pattern in (("scripts", rf"\b{SCRIPTS} agrees\n"), ("scripts", r"[1-9][0-9]* queues compared\n"),
-                              ("recording", r"^legal.*\n(.*\n)* *[1-9][0-9]* queues compared")):
+                              ("recording", r"^legal.*\n(.*\n)* *[1-9][0-9]* queues compared"),
+                              ("recording", rf"^joins and splits: {source}")):
             self.assertRegex(found[name], re.compile(pattern, re.MULTILINE))
+        observed, contradicted = (sum(map(int, re.findall(rf"(\d+) {re.escape(each.text)}", found["recording"])))
+                                  for each in (Count.OBSERVED, Count.CONTRADICTED))
+        self.assertEqual(observed > 0, source == "observed")
+        self.assertLessEqual(50 * contradicted, observed)
         release, _, letters = found["letters"].partition("\n")
         self.assertIsNone(find_wrong(release.strip(), letters, DOCUMENT.read_text(encoding="utf-8")))

@@ -37,11 +37,6 @@ def read_package(package: str, pattern: str) -> bytes:
     return done.stdout
 
 
-def extract_image(package: str) -> bytes:
-    """Returns the kernel image in a package's file, or nothing. Only the image is unpacked."""
-    return next(filter(None, (read_package(package, pattern) for pattern in IN_PACKAGE)), b"")
-
-
 def image_in_folder(folder: str) -> str:
     """Returns the path of the kernel image in a folder. InputFault where there is none, or more than one of a kind."""
     for pattern in IN_FOLDER:
@@ -56,7 +51,8 @@ def image_in_folder(folder: str) -> str:
 def find_kernel(text: str) -> tuple[str, bytes]:
     """Returns the kernel of a path: its name, as it is reported, and its image. InputFault where it is none, or none for x86."""
     path = image_in_folder(text) if os.path.isdir(text) else text
-    image = extract_image(path) if path.endswith(".deb") and os.path.isfile(path) else read_input(path, MOST_IMAGE)
+    is_package = path.endswith(".deb") and os.path.isfile(path)  # only the image is unpacked
+    image = next(filter(None, (read_package(path, each) for each in IN_PACKAGE)), b"") if is_package else read_input(path, MOST_IMAGE)
     if image[_MAGIC_AT : _MAGIC_AT + len(_MAGIC)] != _MAGIC:
         raise InputFault(f"{escape(path)} has no kernel image for x86 (bzImage)")
     return escape(path), image
