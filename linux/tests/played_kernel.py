@@ -15,7 +15,7 @@ from ..record.records import IN_FAULT, Kind, Record
 
 BASE, PMD = 4096, 1 << 21
 SUBPAGES, EVERY = 512, (1 << 512) - 1
-FIRST_FOLIO, PAGE_SIZE = 0xFFFFEA0000008000 & -(64 * SUBPAGES), 64
+FIRST_FOLIO, FOREIGN, PAGE_SIZE = 0xFFFFEA0000008000 & -(64 * SUBPAGES), 0xFFFFEA0010000000, 64
 SPACE, SCANNER = 0xA000, 90
 MADVISE, DONTNEED, MUNMAP, WRITE_FAULT = 28, 4, 11, 6
 STEP = 10  # ns between two records
@@ -40,13 +40,24 @@ class PlayedPage:
 
 
 class PlayedKernel:
-    """Threads of one process, and scans. `records` are those that a recording of them has."""
+    """Threads of one process, and scans. `records` are those that a recording of them has. A `bug` is one of:
 
-    def __init__(self, seed: int, one_by_one: bool, threshold: int | None, threads: int = 3) -> None:
+    shuffled    a scan tries its pages, and puts them back, in a random order
+    forward     in the order of taking, as the model does
+    newest      a scan takes the newest pages
+    head        a scan puts pages back at the queue's head
+    twice       a page joins the queue twice
+    foreign     a page of another group joins too
+    short       a split gives back a frame less
+    double      a split gives back a frame twice
+    taken       a page is freed while a scan holds it
+    """
+
+    def __init__(self, seed: int, one_by_one: bool, threshold: int | None, threads: int = 3, bug: str = "") -> None:
         self.chance = random.Random(seed)
         self.records: list[Record] = []
         self.queue: list[PlayedPage] = []
-        self._one_by_one, self._threshold = one_by_one, threshold
+        self._one_by_one, self._threshold, self._bug = one_by_one, threshold, bug
         self._free = list(range(4 * threads))  # frames of huge pages, which are used again
         self._places: dict[int, PlayedPage | None] = {}  # by address
         self._tasks = [self._work(number) for number in range(1, threads + 1)] + [self._scan_again()]
@@ -122,18 +133,26 @@ class PlayedKernel:
         page.pins = 0
         self._put(task, page)
 
+    def _has_bug(self, bug: str) -> bool:
+        return self._bug == bug and not self.chance.randrange(4)
+
     def _join(self, page: PlayedPage) -> None:
         if not page.is_listed:
             page.is_listed = True
-            self.queue.append(page)
+            self.queue += [page, page] if self._has_bug("twice") else [page]
+            if self._has_bug("foreign"):
+                self.queue.append(PlayedPage(FOREIGN + PAGE_SIZE * SUBPAGES * len(self.records), 0, EVERY, 1, 1, True, True))
 
     def _put(self, task: int, page: PlayedPage) -> None:
         """Frees a page that nothing holds any more."""
-        if not (page.mapped or page.pins or page.is_held or page.is_split or page.is_free):
-            if page in self.queue:
-                self.queue.remove(page)
+        is_held = page.is_held and self._bug != "taken"
+        if not (page.mapped or page.pins or is_held or page.is_split or page.is_free):
+            self._leave(page)
             self._record(Kind.FREE, task, [page.folio, 9])
             self._release(page)
+
+    def _leave(self, page: PlayedPage) -> None:
+        self.queue = [each for each in self.queue if each is not page]
 
     def _release(self, page: PlayedPage) -> None:
         if not page.is_free:
@@ -159,12 +178,13 @@ class PlayedKernel:
             self._record(Kind.SCANNED, SCANNER, [0, 0], True)
             return
         yield
-        taken, self.queue = self.queue[:total], self.queue[total:]
+        taken = self.queue[-total:] if self._bug == "newest" else self.queue[:total]
         for page in taken:
+            self._leave(page)
             page.is_held = True
         back: list[PlayedPage] = []
         split = 0
-        for page in reversed(taken):  # the newest first
+        for page in self._order_of_tries([*dict.fromkeys(taken)]):
             yield
             if self._one_by_one:
                 page.is_listed = False
@@ -173,17 +193,25 @@ class PlayedKernel:
             yield
             if stays and self._one_by_one:
                 self._join(page)
+                if self._bug == "head":
+                    self.queue.insert(0, self.queue.pop())
             elif stays:
                 back.append(page)
                 continue
             page.is_listed = page.is_listed and self._one_by_one
             yield
             self._let_go(page)
-        self.queue += back
+        self.queue = back + self.queue if self._bug == "head" else self.queue + back
         yield
         for page in back:
             self._let_go(page)
         self._record(Kind.SCANNED, SCANNER, [0, split], True)
+
+    def _order_of_tries(self, taken: list[PlayedPage]) -> list[PlayedPage]:
+        """Returns the pages that a scan has taken in the order in which it tries them: the newest first."""
+        if self._bug == "shuffled":
+            self.chance.shuffle(taken)
+        return taken if self._bug in ("shuffled", "forward") else taken[::-1]
 
     def _let_go(self, page: PlayedPage) -> None:
         page.is_held = False
@@ -198,10 +226,10 @@ class PlayedKernel:
         if page.pins or not page.mapped:
             return False, page.is_partly_mapped
         page.is_split, page.is_listed = True, False
-        if page in self.queue:  # a call has queued it meanwhile
-            self.queue.remove(page)
-        gone = ~page.mapped | ~page.data
-        self._free_frames(SCANNER, page, EVERY & gone)
+        self._leave(page)  # a call may have queued it meanwhile
+        gone = EVERY & (~page.mapped | ~page.data)
+        self._free_frames(SCANNER, page, gone & (gone - 1) if self._bug == "short" else gone)
+        self._free_frames(SCANNER, page, gone & -gone if self._bug == "double" else 0)
         page.mapped &= page.data
         if not page.mapped:
             self._release(page)
