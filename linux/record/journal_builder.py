@@ -16,6 +16,7 @@ from typing import Iterable
 from ..common.files import BASE, PMD_ORDER
 from ..common.subpages import runs
 from .calls import COLLAPSE, COPIED, MADVISE, MADV_COLLAPSE, has_succeeded
+from .queue_laws import QueueLaws
 from .reasons import Count, Doubt, Omission
 from .records import IN_FAULT, QUEUE_MOST, WITH_QUEUE, Kind, Record
 from .scans import ScanEvents
@@ -34,7 +35,9 @@ class JournalBuilder(ScanEvents):
 
     def add_records(self, records: Iterable[Record]) -> None:
         """Adds all records of a run; a Store has linked them."""
+        laws = QueueLaws(self.tallies, self.was_partly_mapped, lambda frame: frame & -(self.page_size << self.order))
         for record in records:
+            laws.see(record)
             self.now, self.task = record.time, record.task
             self.ends.update(record.space_ends or {})
             if record.kind in WITH_QUEUE and record.queue is None and len(self.queue) > QUEUE_MOST:

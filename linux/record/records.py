@@ -69,6 +69,7 @@ class Record:
     next_queue: list[int] | None = None  # of a scan's end without a copy: the next copy, if no scan began before it
     folios_made: dict[int, int] | None = None  # of a scan: folios that were allocated until its end, and when last
     space_ends: dict[int, Record] | None = None  # the ends of the address spaces that this record shows first
+    twice: int = 0  # a folio that the walk met twice; there is no queue then
 
     def queue_at_end(self) -> list[int] | None:
         """Returns the queue at a scan's end, by its own copy or the next."""
@@ -86,13 +87,14 @@ def parse_record(raw: bytes, place: int = 0) -> Record:
     words, at = HEAD.unpack_from(raw, place), place + HEAD.size
     kind, count = _KINDS[words[0]], words[14]
     queue: list[int] | None = None
-    contents = None
+    contents, twice = None, 0
     if kind in WITH_QUEUE and count <= QUEUE_MOST:
         queue = list(struct.unpack_from(f"<{count}Q", raw, at))
-        queue = queue if len({*queue}) == len(queue) else None  # a walk of a list that changes may meet a page again
+        if len({*queue}) < count:  # a walk of a list that changes may meet a page again
+            queue, twice = None, next(folio for folio in queue if queue.count(folio) > 1)
     elif kind is Kind.CONTENTS:
         contents = int.from_bytes(raw[at : at + SET], "little"), int.from_bytes(raw[at + SET : at + 2 * SET], "little")
-    return Record(kind, words[1], words[2] & _WORD, words[3], words[4:13], queue, contents, False, words[13], words[15])
+    return Record(kind, words[1], words[2] & _WORD, words[3], words[4:13], queue, contents, False, words[13], words[15], twice=twice)
 
 
 def room_of(length: int) -> int:

@@ -14,7 +14,7 @@ from ..common.files import NewFile
 from ..common.journal import Node, journal_lines
 from ..common.text import escape, text_lines
 from .journal_builder import JournalBuilder
-from .reasons import Count, Doubt, Omission, Reason, describe
+from .reasons import WRONG, Count, Doubt, Omission, Reason, describe
 from .recorder import Recording
 from .scratch import ScratchFile
 from .state import MOST_BLOCKS
@@ -127,8 +127,9 @@ class Report:
                 return DIFFERS, f"illegal line {line}", explained
             why = f"{doubt.text} [{describe(doubt)}]" if doubt else "records are missing"
             return INCONCLUSIVE, "inconclusive", [f"line {line} would be illegal, but for {why}", *explained, *doubts]
-        if tallies[Count.QUEUES_DIFFER] and is_whole:
-            return DIFFERS, "differs", [f"{tallies[Count.QUEUES_DIFFER]} copies of the queue aren't the journal's queue"]
+        wrong = [f"{tallies[count]} {count.text} [{describe(count)}]" for count in WRONG if tallies[count]]
+        if wrong and is_whole:
+            return DIFFERS, "differs", wrong
         if doubts:
             return INCONCLUSIVE, "inconclusive", doubts
         if letters and self._is_strict:

@@ -6,6 +6,7 @@ tries them, older kernels all at a scan's end.
 
 from __future__ import annotations
 
+import itertools
 import random
 from dataclasses import dataclass
 from typing import Iterator
@@ -58,6 +59,7 @@ class PlayedKernel:
         self.records: list[Record] = []
         self.queue: list[PlayedPage] = []
         self._one_by_one, self._threshold, self._bug = one_by_one, threshold, bug
+        self._foreign = itertools.count()
         self._free = list(range(4 * threads))  # frames of huge pages, which are used again
         self._places: dict[int, PlayedPage | None] = {}  # by address
         self._tasks = [self._work(number) for number in range(1, threads + 1)] + [self._scan_again()]
@@ -133,15 +135,16 @@ class PlayedKernel:
         page.pins = 0
         self._put(task, page)
 
-    def _has_bug(self, bug: str) -> bool:
-        return self._bug == bug and not self.chance.randrange(4)
+    def _has_bug(self, bug: str, of: int = 4) -> bool:
+        """Returns whether it has a bug, once of so many times."""
+        return bool(bug) and self._bug == bug and not self.chance.randrange(of)
 
     def _join(self, page: PlayedPage) -> None:
         if not page.is_listed:
             page.is_listed = True
             self.queue += [page, page] if self._has_bug("twice") else [page]
             if self._has_bug("foreign"):
-                self.queue.append(PlayedPage(FOREIGN + PAGE_SIZE * SUBPAGES * len(self.records), 0, EVERY, 1, 1, True, True))
+                self.queue.append(PlayedPage(FOREIGN + PAGE_SIZE * SUBPAGES * next(self._foreign), 0, EVERY, 1, 1, True, True))
 
     def _put(self, task: int, page: PlayedPage) -> None:
         """Frees a page that nothing holds any more."""
@@ -172,7 +175,7 @@ class PlayedKernel:
     def _scan(self) -> Steps:
         freeable = len(self.queue)
         yield
-        total = freeable + self.chance.randrange(freeable + 1)
+        total = freeable + (0 if self._has_bug(self._bug, 2) else self.chance.randrange(freeable + 1))
         self._record(Kind.SCAN, SCANNER, [total, freeable], True)
         if not total:
             self._record(Kind.SCANNED, SCANNER, [0, 0], True)
