@@ -113,14 +113,17 @@ class QueueMatcher(MappingEvents):
             other = mine[i]
             if other is page:
                 continue
-            first, last = self.place_of_join(other), self.place_of_join(page)
-            if not 0 <= first <= last:
-                return
-            window = self.lines.latest[first : last + 1]
-            own = [line for line in window if line.page == page.number]
-            self.lines.latest[first : last + 1] = own + [line for line in window if line.page != page.number]
-            for queue in (self.queue, self.journal_queue):
-                queue.remove(page)
-                queue.insert(queue.index(other), page)
+            late = other if page.is_omitted else next(each for each in mine[i:] if not each.is_omitted)
+            if late is not page and not page.is_omitted:  # the lines of a page that is left out have any place
+                first, last = self.place_of_join(late), self.place_of_join(page)
+                if not 0 <= first <= last:
+                    return
+                window = self.lines.latest[first : last + 1]
+                own = [line for line in window if line.page == page.number]
+                self.lines.latest[first : last + 1] = own + [line for line in window if line.page != page.number]
+                self.journal_queue.remove(page)
+                self.journal_queue.insert(self.journal_queue.index(late), page)
+            self.queue.remove(page)
+            self.queue.insert(self.queue.index(other), page)
             mine.remove(page)
             mine.insert(i, page)

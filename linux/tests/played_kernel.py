@@ -36,7 +36,7 @@ class PlayedPage:
     is_partly_mapped: bool = False
     is_listed: bool = False
     is_split: bool = False
-    is_held: bool = False  # by a scan
+    holders: int = 0  # scans
     is_free: bool = False
 
 
@@ -54,7 +54,7 @@ class PlayedKernel:
     taken       a page is freed while a scan holds it
     """
 
-    def __init__(self, seed: int, one_by_one: bool, threshold: int | None, threads: int = 3, bug: str = "") -> None:
+    def __init__(self, seed: int, one_by_one: bool, threshold: int | None, threads: int = 3, bug: str = "", scanners: int = 1) -> None:
         self.chance = random.Random(seed)
         self.records: list[Record] = []
         self.queue: list[PlayedPage] = []
@@ -62,7 +62,8 @@ class PlayedKernel:
         self._foreign = itertools.count()
         self._free = list(range(4 * threads))  # frames of huge pages, which are used again
         self._places: dict[int, PlayedPage | None] = {}  # by address
-        self._tasks = [self._work(number) for number in range(1, threads + 1)] + [self._scan_again()]
+        self._tasks = [self._work(number) for number in range(1, threads + 1)]
+        self._tasks += [self._scan_again(SCANNER + number) for number in range(scanners)]
 
     def play(self, steps: int) -> list[Record]:
         """Takes steps of tasks picked at random; returns the records."""
@@ -148,7 +149,7 @@ class PlayedKernel:
 
     def _put(self, task: int, page: PlayedPage) -> None:
         """Frees a page that nothing holds any more."""
-        is_held = page.is_held and self._bug != "taken"
+        is_held = page.holders and self._bug != "taken"
         if not (page.mapped or page.pins or is_held or page.is_split or page.is_free):
             self._leave(page)
             self._record(Kind.FREE, task, [page.folio, 9])
@@ -166,49 +167,49 @@ class PlayedKernel:
         for number in [number for first, count in runs(bits) for number in range(first, first + count)]:
             self._record(Kind.FREE, task, [page.folio + PAGE_SIZE * number, 0])
 
-    def _scan_again(self) -> Steps:
+    def _scan_again(self, task: int) -> Steps:
         while True:
             for _ in range(self.chance.randrange(30)):
                 yield
-            yield from self._scan()
+            yield from self._scan(task)
 
-    def _scan(self) -> Steps:
+    def _scan(self, task: int) -> Steps:
         freeable = len(self.queue)
         yield
         total = freeable + (0 if self._has_bug(self._bug, 2) else self.chance.randrange(freeable + 1))
-        self._record(Kind.SCAN, SCANNER, [total, freeable], True)
+        self._record(Kind.SCAN, task, [total, freeable], True)
         if not total:
-            self._record(Kind.SCANNED, SCANNER, [0, 0], True)
+            self._record(Kind.SCANNED, task, [0, 0], True)
             return
         yield
         taken = self.queue[-total:] if self._bug == "newest" else self.queue[:total]
         for page in taken:
             self._leave(page)
-            page.is_held = True
+            page.holders += 1
         back: list[PlayedPage] = []
         split = 0
         for page in self._order_of_tries([*dict.fromkeys(taken)]):
             yield
             if self._one_by_one:
                 page.is_listed = False
-            is_split, stays = self._try(page)
+            is_split, stays = self._try(task, page)
             split += is_split
             yield
-            if stays and self._one_by_one:
+            if stays and self._one_by_one and not page.is_split:  # by another scan, which a call's queueing gave it
                 self._join(page)
                 if self._bug == "head":
                     self.queue.insert(0, self.queue.pop())
-            elif stays:
+            elif stays and not self._one_by_one:
                 back.append(page)
                 continue
             page.is_listed = page.is_listed and self._one_by_one
             yield
-            self._let_go(page)
+            self._let_go(task, page)
         self.queue = back + self.queue if self._bug == "head" else self.queue + back
         yield
         for page in back:
-            self._let_go(page)
-        self._record(Kind.SCANNED, SCANNER, [0, split], True)
+            self._let_go(task, page)
+        self._record(Kind.SCANNED, task, [0, split], True)
 
     def _order_of_tries(self, taken: list[PlayedPage]) -> list[PlayedPage]:
         """Returns the pages that a scan has taken in the order in which it tries them: the newest first."""
@@ -216,11 +217,11 @@ class PlayedKernel:
             self.chance.shuffle(taken)
         return taken if self._bug in ("shuffled", "forward") else taken[::-1]
 
-    def _let_go(self, page: PlayedPage) -> None:
-        page.is_held = False
-        self._put(SCANNER, page)
+    def _let_go(self, task: int, page: PlayedPage) -> None:
+        page.holders -= 1
+        self._put(task, page)
 
-    def _try(self, page: PlayedPage) -> tuple[bool, bool]:
+    def _try(self, task: int, page: PlayedPage) -> tuple[bool, bool]:
         """Returns whether a page was split, and whether it is put back."""
         zeros = size(EVERY & ~page.data)
         underused = self._threshold is not None and not page.is_partly_mapped and zeros > self._threshold
@@ -231,8 +232,8 @@ class PlayedKernel:
         page.is_split, page.is_listed = True, False
         self._leave(page)  # a call may have queued it meanwhile
         gone = EVERY & (~page.mapped | ~page.data)
-        self._free_frames(SCANNER, page, gone & (gone - 1) if self._bug == "short" else gone)
-        self._free_frames(SCANNER, page, gone & -gone if self._bug == "double" else 0)
+        self._free_frames(task, page, gone & (gone - 1) if self._bug == "short" else gone)
+        self._free_frames(task, page, gone & -gone if self._bug == "double" else 0)
         page.mapped &= page.data
         if not page.mapped:
             self._release(page)
