@@ -36,11 +36,13 @@ class JournalBuilder(ScanEvents):
     def add_records(self, records: Iterable[Record]) -> None:
         """Adds all records of a run; a Store has linked them."""
         laws = QueueLaws(self.tallies, self.was_partly_mapped, lambda frame: frame & -(self.page_size << self.order))
+        handlers = [getattr(self, f"handle_{kind.name.lower()}") for kind in Kind]
         for record in records:
             laws.see(record)
             self.now, self.task = record.time, record.task
-            self.ends.update(record.space_ends or {})
-            if record.kind in WITH_QUEUE and record.queue is None and len(self.queue) > QUEUE_MOST:
+            if record.space_ends:
+                self.ends.update(record.space_ends)
+            if record.queue is None and len(self.queue) > QUEUE_MOST and record.kind in WITH_QUEUE:
                 self.tallies[Count.COPIES_MISSING] += 1
                 self.begin_doubt(Doubt.LONG_QUEUE)
             if record.queue is not None and record.time < self.emitted_until:
@@ -49,7 +51,7 @@ class JournalBuilder(ScanEvents):
             if record.kind not in (Kind.FREE, Kind.CONTENTS):  # an interrupt frees in any task's name
                 self._end_last_step(record)
             if not record.is_applied:
-                getattr(self, f"handle_{record.kind.name.lower()}")(record)
+                handlers[record.kind](record)
 
     def _end_last_step(self, record: Record) -> None:
         """Ends what a task's last record has begun: its next record shows that it is over."""

@@ -17,7 +17,8 @@ from .records import Kind, Record
 SOON = 1000000  # ns in which nothing makes a page again and queues it unseen
 MOST = 128  # pages that a scan is asked for at a time
 MANY = 4096  # pages of which is kept when they were freed or made
-_PLACES = {Kind.FREE: 0, Kind.ALLOC: 0, Kind.MOVED: 1, Kind.COLLAPSED: 2}  # of the folio among a record's values
+_FOLIO = {Kind.FREE: 0, Kind.ALLOC: 0, Kind.MOVED: 1, Kind.COLLAPSED: 2}
+_PLACES = [_FOLIO.get(kind, -1) for kind in Kind]  # where the page freed or made is among a record's values
 
 
 @dataclass(eq=False)
@@ -54,9 +55,10 @@ class QueueLaws:
         if task in self._open:
             self._last = self._open.pop(task)
             self._last.until = time
-        if kind in _PLACES:
+        if _PLACES[kind] >= 0:
             self._note(record, record.values[_PLACES[kind]])
-            return
+            if kind is not Kind.COLLAPSED:
+                return
         is_quiet = not self._running and self._ended < time
         if record.twice and is_quiet and self._changed.get(record.twice, 0) < time:
             self.tallies[Count.MET_TWICE] += 1

@@ -38,8 +38,7 @@ class QueueMatcher(MappingEvents):
 
     def _count(self, differs: bool) -> None:
         """Counts a comparison, unless something runs that may have changed the queue in a way that isn't emitted yet."""
-        if not any(call.kind is Kind.COLLAPSED or any(self.reaches(call, page) for page in self.spaces.get(call.space, ()))
-                   for call in self.pending.values()):
+        if not any(call.kind is Kind.COLLAPSED or self.reaches_any(call) for call in self.pending.values()):
             self.tallies[Count.QUEUES_COMPARED] += 1
             self.tallies[Doubt.QUEUES if self.is_doubted else Count.QUEUES_DIFFER] += differs
             if not differs:

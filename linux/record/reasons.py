@@ -101,7 +101,7 @@ class Count(Reason):
     WITHOUT_FAULT = "allocations without a fault, not followed", Origin.LIMIT
 
 
-WRONG = (Count.QUEUES_DIFFER, Count.MET_TWICE, Count.QUEUED_FREE, Count.OVERTAKEN, Count.DIRECTIONS)  # any makes a recording differ
+PROVED = (Count.MET_TWICE, Count.QUEUED_FREE, Count.OVERTAKEN, Count.DIRECTIONS)  # by copies alone: any makes a recording differ
 
 
 def describe(reason: Reason) -> str:
