@@ -45,8 +45,7 @@ class QueueLaws:
     _split: set[int] = field(default_factory=set)  # pages that they have split
     _running: set[int] = field(default_factory=set)  # tasks of scans that run
     _ended: int = 0  # when a scan ended last
-    _changed: dict[int, int] = field(default_factory=dict)  # when pages were last freed or made
-    _freed: dict[int, int] = field(default_factory=dict)  # when those were freed that weren't made again
+    _changed: dict[int, int] = field(default_factory=dict)  # when pages were last freed, or (below 0) made
     _directions: set[bool] = field(default_factory=set)  # whether pages were put back in the order of taking, or in reverse
 
     def see(self, record: Record) -> None:
@@ -57,11 +56,10 @@ class QueueLaws:
             self._last.until = time
         if _PLACES[kind] >= 0:
             self._note(record, record.values[_PLACES[kind]])
-            if kind is not Kind.COLLAPSED:
-                return
+        if kind is Kind.FREE:
+            return
         is_quiet = not self._running and self._ended < time
-        if record.twice and is_quiet and self._changed.get(record.twice, 0) < time:
-            self.tallies[Count.MET_TWICE] += 1
+        self.tallies[Count.MET_TWICE] += bool(record.twice) and is_quiet and not self._has_changed(record.twice, time)
         if record.queue is not None:
             self._compare(record, record.queue)
             self._open[task] = _Copy(record.queue[:], time)
@@ -74,66 +72,52 @@ class QueueLaws:
             self._running.discard(task)
             self._ended = max(self._ended, time)
 
+    def _has_changed(self, folio: int, since: int) -> bool:
+        return abs(self._changed.get(folio, 0)) >= since
+
     def _note(self, record: Record, folio: int) -> None:
         """Notes that a page or a frame was freed, or a page made."""
-        is_free = record.kind is Kind.FREE
-        if is_free and record.values[1] == 0:
+        if record.kind is Kind.FREE and record.values[1] == 0:
             if record.task in self._running:
                 self._split.add(self.folio_of(folio))
             if folio not in self._changed:
                 return
-        self._changed[folio] = record.time
-        self._freed.pop(folio, None)
-        if is_free:
-            self._freed[folio] = record.time
+        self._changed[folio] = record.time if record.kind is Kind.FREE else -record.time
         if len(self._changed) > MANY:
             self._last = self._base = _Copy()
-            for times in (self._changed, self._freed):
-                for each in [each for each, time in times.items() if time < record.time - SOON]:
-                    del times[each]
+            self._changed = {each: time for each, time in self._changed.items() if abs(time) > record.time - SOON}
 
     def _compare(self, record: Record, queue: list[int]) -> None:
         """Compares a copy with earlier ones."""
-        for folio in self._freed.keys() & queue if self._freed else ():
-            self.tallies[Count.QUEUED_FREE] += self._freed[folio] < record.time < self._freed.pop(folio) + SOON
-        last, base = self._last, self._base
-        if queue[: len(last.queue)] != last.queue and last.until <= record.time:
-            edge = self._edge(record, queue)
-            if not self._running and self._ended < last.begun:
-                self._compare_order(last, 0, queue)
-            elif edge >= 0 and last.begun >= base.begun and not {*base.queue[:edge]} & {*last.queue}:
-                self._compare_order(last, 0, queue)
-        if record.kind is Kind.SCANNED and self._scans == 1 and 0 < self._reach <= MOST and self._edge(record, queue) >= 0:
-            self._compare_directions(queue)
+        for folio in self._changed.keys() & queue:
+            if 0 < self._changed[folio] < record.time < self._changed[folio] + SOON:
+                self.tallies[Count.QUEUED_FREE] += 1
+        last, base, edge = self._last, self._base, self._edge(record, queue)
+        if queue[: len(last.queue)] != last.queue and last.until <= record.time and not any(
+                self._has_changed(folio, last.begun) for folio in last.queue):
+            is_quiet = not self._running and self._ended < last.begun
+            if is_quiet or edge >= 0 and last.begun >= base.begun and not {*base.queue[:edge]} & {*last.queue}:
+                stay = {*last.queue}
+                end = max((at + 1 for at, folio in enumerate(queue) if folio in stay), default=0)
+                before = {*queue[:end]}
+                self.tallies[Count.OVERTAKEN] += queue[:end] != [folio for folio in last.queue if folio in before]
+        if record.kind is Kind.SCANNED and self._scans == 1 and edge >= 0:
+            self._compare_directions(queue, base.queue[: self._reach])
 
     def _edge(self, record: Record, queue: list[int]) -> int:
         """Returns how many pages of the base scans may have taken, or left by themselves; -1: scans can have taken any page."""
         base, length = self._base, len(self._base.queue)
-        if self._reach > length or not base.until or base.until > record.time:
+        if not 0 < self._reach <= min(length, MOST) or not base.until or base.until > record.time:
             return -1
-        kept = {folio for folio in queue if self._changed.get(folio, 0) < base.begun} | self._split
+        kept = {folio for folio in queue if not self._has_changed(folio, base.begun)} | self._split
         edge = self._reach + sum(folio not in kept for folio in base.queue)
         return edge if edge <= length else -1
 
-    def _compare_order(self, earlier: _Copy, first: int, queue: list[int]) -> None:
-        """Compares a copy with an earlier one whose pages from the first on can't have left it and come again."""
-        if any(self._changed.get(folio, 0) >= earlier.begun for folio in earlier.queue):
-            return
-        stay = {*earlier.queue[first:]}
-        end = max((at + 1 for at, folio in enumerate(queue) if folio in stay), default=0)
-        before = {*queue[:end]}
-        self.tallies[Count.OVERTAKEN] += queue[:end] != [folio for folio in earlier.queue if folio in before]
-
-    def _compare_directions(self, queue: list[int]) -> None:
+    def _compare_directions(self, queue: list[int], taken: list[int]) -> None:
         """Compares the order of put-backs with the order of taking, after a scan beside which no other one ran and that took each page
         once: a page that was partly mapped is put back or split."""
-        taken = self._base.queue[: self._reach]
         back = [folio for folio in queue if folio in taken]
-        if len(back) < 2 or not all(self.was_partly_mapped(folio, self._base.begun) for folio in back):
-            return
-        is_reverse = back == [folio for folio in reversed(taken) if folio in back]
-        if is_reverse or back == [folio for folio in taken if folio in back]:
-            self._directions.add(is_reverse)
-            self.tallies[Count.DIRECTIONS] += len(self._directions) > 1
-        else:
-            self.tallies[Count.DIRECTIONS] += 1
+        order = [folio for folio in taken if folio in back]
+        if len(back) > 1 and all(self.was_partly_mapped(folio, self._base.begun) for folio in back):
+            self._directions.add(back != order)
+            self.tallies[Count.DIRECTIONS] += back not in (order, order[::-1]) or len(self._directions) > 1

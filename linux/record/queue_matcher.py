@@ -34,7 +34,8 @@ class QueueMatcher(MappingEvents):
         skip = set(self.joining.values())
         mine = [page for page in self.queue if not page.is_omitted and page not in skip]
         kernels = [page for page in found if page and not page.is_omitted and page not in skip]
-        self._count(mine != kernels)
+        if {*mine} <= {*kernels}:  # else a call that runs may be why a page has left
+            self._count(mine != kernels)
 
     def _count(self, differs: bool) -> None:
         """Counts a comparison, unless something runs that may have changed the queue in a way that isn't emitted yet."""
@@ -76,7 +77,8 @@ class QueueMatcher(MappingEvents):
 
     def _emit_leave(self, page: Page, queue: list[int]) -> None:
         """Emits the event by which a page of our queue has left the kernel's."""
-        running = [call for call in self.pending.values() if call.space in page.maps]
+        page.missed = page.missed or self.now
+        running = [call for call in self.pending.values() if call.space in page.maps and call.time < page.missed]
         calls_reaching = self.calls_reaching(page)
         if not page.used_subpages():  # its last pin has gone, and the record of its free comes
             self.last_unpin(self.task, page)

@@ -49,7 +49,9 @@ class ScanEvents(QueueMatcher):
         if not scan:
             return
         own = record.queue if observed is None else observed
-        if not scan.batches or not scan.start.queue:
+        if scan.batches and own is not None:
+            self._add_faulted(scan, own)
+        if not scan.batches or not scan.pages:
             self.match(own)
             return
         self.emitted_until = max(self.emitted_until, min(record.time, self.now))

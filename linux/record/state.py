@@ -67,6 +67,7 @@ class Page:
     is_tried: bool = False  # a scan tried it
     has_joined: bool = False  # a copy of the queue showed it before its task's next record
     is_perhaps_taken: bool = False  # it joined at its fault while a scan ran, which took it then or not
+    missed: int = 0  # when a copy of the queue first lacked it
     last_change: int = 0  # when the last call that reached it was recorded
     join: JournalLine | None = None  # the event by which it joined the queue
 
