@@ -9,7 +9,8 @@ from .state import Page
 
 
 class QueueMatcher(MappingEvents):
-    """Matches the journal's queue with copies of the kernel's (folios, oldest first), and compares them."""
+    """Matches the journal's queue with copies of the kernel's (folios, oldest first), and compares them. Of a page that was made after
+    a copy was begun it shows nothing: it may show the former page at that place."""
 
     def match(self, queue: list[int] | None) -> None:
         """Emits events of running calls until the journal's queue matches a copy of the kernel's, and compares both."""
@@ -18,22 +19,24 @@ class QueueMatcher(MappingEvents):
         if self._is_journal_queue(queue):
             self._count(False)
             return
+        shown = {*queue}
         for page in self.joining.values():
-            page.has_joined = page.has_joined or page.folio in queue
+            page.has_joined = page.has_joined or page.folio in shown and page.born <= self.now
         self.emit_early_joins(queue)
         if self.scans:
             return
         for page in list(self.queue):
-            if page.folio not in queue and page not in self.joining.values() and page in self.queue:
+            if page.folio not in shown and page not in self.joining.values() and page in self.queue and page.born <= self.now:
                 self._emit_leave(page, queue)
         for page in self.joining.values():
             if page.folio not in queue and page in self.queue and not page.is_freed:
                 self.move_to_end({page})  # its allocation put it into our queue, but it is not in the kernel's yet
-        found = [self.at.get(folio) for folio in queue]
-        self._reorder([page for page in found if page and page in self.queue])
-        skip = set(self.joining.values())
+        found = [page for page in map(self.at.get, queue) if page and page.born <= self.now]
+        own_queue = {*self.queue}
+        self._reorder([page for page in found if page in own_queue])
+        skip = {*self.joining.values(), *(page for page in self.queue if page.born > self.now)}
         mine = [page for page in self.queue if not page.is_omitted and page not in skip]
-        kernels = [page for page in found if page and not page.is_omitted and page not in skip]
+        kernels = [page for page in found if not page.is_omitted and page not in skip]
         if {*mine} <= {*kernels}:  # else a call that runs may be why a page has left
             self._count(mine != kernels)
 
@@ -65,7 +68,7 @@ class QueueMatcher(MappingEvents):
                 self.apply(self.pending.pop(made[folio]), queue)
                 continue
             page = self.at.get(folio)
-            if not page or folio in own_queue or page.is_taken:
+            if not page or folio in own_queue or page.is_taken or page.born > self.now:
                 continue
             for call in self.calls_reaching(page):
                 if page not in self.queue:
@@ -109,7 +112,8 @@ class QueueMatcher(MappingEvents):
 
     def _reorder(self, kernels: list[Page]) -> None:
         """Moves events of a page to an earlier place: pages of two tasks may join in another order than that in which their calls end."""
-        mine = [page for page in self.queue if page in kernels]
+        these = {*kernels}
+        mine = [page for page in self.queue if page in these]
         for i, page in enumerate(kernels):
             other = mine[i]
             if other is page:

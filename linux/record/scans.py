@@ -40,7 +40,7 @@ class ScanEvents(QueueMatcher):
             self.begin_doubt(Doubt.OVERLAP)
         joining = [page for page in self.joining.values() if page.folio not in record.queue]
         batches = [*batches_of(*record.values[:2])]
-        pages = [self.at.get(folio) for folio in record.queue]
+        pages = [page if page and page.born <= record.time else None for page in map(self.at.get, record.queue)]
         self.scans[record.task] = Scan(record, pages, joining, batches, sum(count for _, count in batches))
 
     def handle_scanned(self, record: Record, observed: list[int] | None = None) -> None:
@@ -190,8 +190,8 @@ class ScanEvents(QueueMatcher):
             is_gone = page.folio not in queue and not page.is_freed
             if not is_new or not is_gone or page in scan.pages or len(scan.pages) >= scan.start.values[0]:
                 continue
-            if page in self.joining.values() and not page.has_joined:
-                page.is_perhaps_taken = True
+            if page.is_perhaps_taken or page in self.joining.values() and not page.has_joined:
+                page.is_perhaps_taken = True  # by this scan, or by one before
             else:
                 scan.pages.append(page)
 
