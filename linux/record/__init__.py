@@ -11,8 +11,7 @@
         queue_matcher    compares the kernel's queue with the journal's
         mappings         effects of calls, forks and ends of address spaces on pages
         state            pages and their mappings, the queue and the journal so far
-        lines            the journal's latest lines, and older ones on disk
-    outputs          the journal as a file, its check, and the output files
+    queue_laws       what copies of the queue prove by themselves
     reasons          everything that is counted and left out, with what to do
     report           the journal as a file, the output files, the verdict, and what is printed
     workload.c  threads that make, divide and drop huge pages

@@ -35,7 +35,7 @@ class JournalBuilder(ScanEvents):
 
     def add_records(self, records: Iterable[Record]) -> None:
         """Adds all records of a run; a Store has linked them."""
-        laws = QueueLaws(self.tallies, self.was_partly_mapped, lambda frame: frame & -(self.page_size << self.order))
+        laws = QueueLaws(self)
         handlers = [getattr(self, f"handle_{kind.name.lower()}") for kind in Kind]
         for record in records:
             laws.see(record)

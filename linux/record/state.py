@@ -196,11 +196,6 @@ class State:
         if self.caller_of(task) in busy:
             self._callers[task] = min({*range(CALLERS)} - busy)
 
-    def was_partly_mapped(self, folio: int, time: int) -> bool:
-        """Returns whether a page was partly mapped before a time."""
-        page = self.at.get(folio)
-        return page is not None and page.is_partly_mapped and page.partly_since < time
-
     def is_followed(self, folio: int) -> bool:
         """Returns whether the queue is the one of a page's NUMA node."""
         return not self.folios or any(folio in each for each in self.folios)
