@@ -36,7 +36,7 @@ class JournalBuilder(ScanEvents):
     def add_records(self, records: Iterable[Record]) -> None:
         """Adds all records of a run; a Store has linked them."""
         laws = QueueLaws(self)
-        handlers = [getattr(self, f"handle_{kind.name.lower()}") for kind in Kind]
+        handlers = [getattr(self, f"handle_{kind.name.lower()}", lambda record: None) for kind in Kind]  # a fault has only ended a step
         for record in records:
             laws.see(record)
             self.now, self.task = record.time, record.task
@@ -93,9 +93,6 @@ class JournalBuilder(ScanEvents):
         for pages in (self._fault_pages, self.joining):
             for task in [task for task, page in pages.items() if not page.is_live]:
                 del pages[task]
-
-    def handle_fault(self, record: Record) -> None:
-        """Nothing: it has shown that the task's last step is over."""
 
     def handle_alloc(self, record: Record) -> None:
         """Adds a page that a fault made, or begins a collapse: it counts as a call that unmaps a region, until its end or until

@@ -41,11 +41,6 @@ class MappingEvents(State):
         return mapping is not None and any(
             self._subpages_in_range(call, each, page) & mapping.bits for each in list_removals(call))
 
-    def reaches_any(self, call: Record) -> bool:
-        """Returns whether a running call removes mappings that were not emitted early."""
-        return any(self.reaches(call, page) for each in list_removals(call)
-                   for page in self.pages_between(call.space, each.start, each.end))
-
     def calls_reaching(self, page: Page) -> list[Record]:
         """Returns the running calls that remove mappings of a page."""
         return [call for call in self.pending.values() if self.reaches(call, page)]

@@ -2,6 +2,7 @@
 
 from __future__ import annotations
 
+from .calls import list_removals
 from .mappings import MappingEvents
 from .reasons import Count, Doubt, Omission
 from .records import Kind
@@ -42,7 +43,9 @@ class QueueMatcher(MappingEvents):
 
     def _count(self, differs: bool) -> None:
         """Counts a comparison, unless something runs that may have changed the queue in a way that isn't emitted yet."""
-        if not any(call.kind is Kind.COLLAPSED or self.reaches_any(call) for call in self.pending.values()):
+        if not any(call.kind is Kind.COLLAPSED or any(self.reaches(call, page) for each in list_removals(call)
+                                                      for page in self.pages_between(call.space, each.start, each.end))
+                   for call in self.pending.values()):
             self.tallies[Count.QUEUES_COMPARED] += 1
             self.tallies[Doubt.QUEUES if self.is_doubted else Count.QUEUES_DIFFER] += differs
             if not differs:

@@ -101,11 +101,6 @@ def parse_record(raw: bytes, place: int = 0) -> Record:
     return Record(kind, words[1], words[2] & _WORD, words[3], words[4:13], queue, contents, False, words[13], words[15], twice=twice)
 
 
-def room_of(length: int) -> int:
-    """Returns the bytes that a record of this length takes in the file."""
-    return RING_HEAD + (length + 7 & ~7)
-
-
 class Store(ScratchFile):
     """Records of one queue. Records may be written to the end of its `descriptor`."""
 
@@ -117,7 +112,7 @@ class Store(ScratchFile):
 
     def add(self, raw: bytes) -> None:
         """Appends one record."""
-        self.append((_LINK.pack(len(raw)) + raw).ljust(room_of(len(raw)), b"\0"))
+        self.append(_LINK.pack(len(raw)) + raw + bytes(-len(raw) % 8))
         self.count += 1
 
     def link(self) -> None:
@@ -165,12 +160,12 @@ class Store(ScratchFile):
             data, at = rest + piece, 0
             self.tell(place / end)
             while len(data) >= at + RING_HEAD:
-                room = room_of(*_LINK.unpack_from(data, at))
-                if len(data) < at + room:
+                begin, length = at + RING_HEAD, _LINK.unpack_from(data, at)[0]
+                if len(data) < begin + length + -length % 8:
                     break
-                if with_frees or data[at + RING_HEAD] != Kind.FREE:
-                    yield place + at + RING_HEAD, parse_record(data, at + RING_HEAD)
-                at += room
+                if with_frees or data[begin] != Kind.FREE:
+                    yield place + begin, parse_record(data, begin)
+                at = begin + length + -length % 8
             rest, place = data[at:], place + at
         if rest:
             raise RunFailed("the records on disk end within a record")
