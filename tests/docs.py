@@ -37,7 +37,7 @@ MOST_WORDS = 25_000
 MOST_ROWS = 40
 """The most rows of the tables in docs/MAP.md."""
 
-MOST_KERNEL_LINES = {"Python": 10_000, "C": 2_500, "tests": 6_500}
+MOST_KERNEL_LINES = {"Python": 10_060, "C": 2_500, "tests": 6_500}
 """The most lines of `linux/`: Python and C outside tests, and both in tests."""
 
 DOCUMENTS = ["README.md", "CONTRIBUTING.md", *sorted(str(path.relative_to(ROOT)) for path in ROOT.glob("docs/*.md"))]
