@@ -86,11 +86,12 @@ class QueueLaws:
         """Compares a copy with earlier ones."""
         freed = (self._changed[folio] for folio in self._changed.keys() & queue)
         self._tallies[Count.QUEUED_FREE] += sum(0 < time < record.time < time + SOON for time in freed)
-        last, base, edge = self._last, self._base, self._edge(record.time, queue)
+        last, base = self._last, self._base
+        is_other = tuple(queue[: len(last.queue)]) != last.queue and last.until <= record.time
+        edge = self._edge(record.time, queue) if is_other or record.kind is Kind.SCANNED else -1
         is_apart = not self._running and self._ended < last.begun  # from all scans, or from what these may have taken
         is_apart = is_apart or edge >= 0 and last.begun >= base.begun and not {*base.queue[:edge]} & {*last.queue}
-        is_steady = last.until <= record.time and not any(self._has_changed(folio, last.begun) for folio in last.queue)
-        if tuple(queue[: len(last.queue)]) != last.queue and is_apart and is_steady:
+        if is_other and is_apart and not any(self._has_changed(folio, last.begun) for folio in last.queue):
             stay = {*last.queue}
             before = queue[: max((at + 1 for at, folio in enumerate(queue) if folio in stay), default=0)]
             members = {*before}

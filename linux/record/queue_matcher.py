@@ -58,7 +58,7 @@ class QueueMatcher(MappingEvents):
         """Returns whether a copy equals the journal's queue and nothing runs that it could show: the usual case, and quick."""
         if self.scans or self.joining or len(queue) != len(self.queue):
             return False
-        same = all(page.folio == folio and self.at.get(folio) is page for page, folio in zip(self.queue, queue))
+        same = [page.folio for page in self.queue] == queue and [*map(self.at.get, queue)] == self.queue
         return same and all(call.kind is not Kind.COLLAPSED for call in self.pending.values())
 
     def emit_early_joins(self, queue: list[int]) -> None:
