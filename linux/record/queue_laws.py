@@ -12,6 +12,7 @@ from typing import NamedTuple, Sequence
 
 from .reasons import Count
 from .records import Kind, Record
+from .scans import batches_of
 from .state import State
 
 SOON = 1000000  # ns in which nothing makes a page again and queues it unseen
@@ -63,7 +64,7 @@ class QueueLaws:
                 self._base, self._base_task, self._scans, self._reach = self._open.get(task, Copy()), task, 0, 0
                 self._split.clear()
             self._running.add(task)
-            self._scans, self._reach = self._scans + 1, self._reach + record.values[0]
+            self._scans, self._reach = self._scans + 1, self._reach + sum(count for _, count in batches_of(*record.values[:2]))
         elif kind is Kind.SCANNED:
             self._running.discard(task)
             self._ended = max(self._ended, time)

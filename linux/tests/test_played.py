@@ -49,6 +49,9 @@ class OverlapTest(JournalCase):
                    "o:begin > 3; o:free 3 0 8; o:end > -; free 2 0 8; end > 0; look > 0",
                    "taken 3; split 3 0-7; pinned 0; split 2 0-7; back 0")
 
+    def test_a_scan_that_is_asked_for_too_few_pages_takes_none(self) -> None:
+        self.check("divided 3; d:begin > 0 1 2; d:end > 2 1 0; d:begin 2 3 > 2 1 0; d:end > 2 1 0", "back 0; back 1; back 2")
+
     def test_a_copy_that_was_begun_before_a_page_was_made_shows_the_former_one(self) -> None:
         records = WrittenRecords("divided 3; unmap 1 > 0 2; page 5 1; drop 5 0 8 > 0 2 1; look > 0 1 2")
         records.records[-1].time = records.records[-5].time  # the copy's walk began before the fault of page 5
