@@ -53,8 +53,8 @@ class OverlapTest(JournalCase):
         self.check("divided 3; d:begin > 0 1 2; d:end > 2 1 0; d:begin 2 3 > 2 1 0; d:end > 2 1 0", "back 0; back 1; back 2")
 
     def test_a_copy_that_was_begun_before_a_page_was_made_shows_the_former_one(self) -> None:
-        records = WrittenRecords("divided 3; unmap 1 > 0 2; page 5 1; drop 5 0 8 > 0 2 1; look > 0 1 2")
-        records.records[-1].time = records.records[-5].time  # the copy's walk began before the fault of page 5
+        records = WrittenRecords("divided 3; unmap 1 > 0 2; page 5 1; drop 5 0 8 > 0 2 1; o:look > 0 1 2")
+        records.records[-1].time = records.records[-8].time  # the walk began before page 1 was freed
         self.check(records, "unmapsub 3 0 8 queued -")
 
 
