@@ -12,6 +12,7 @@
         mappings         effects of calls, forks and ends of address spaces on pages
         state            pages and their mappings, the queue and the journal so far
         observed         what function tracing observes, compared with the journal
+    queue_laws       what copies of the queue prove by themselves
     reasons          everything that is counted and left out, with what to do
     report           the journal as a file, the output files, the verdict, and what is printed
     workload.c  threads that make, divide and drop huge pages

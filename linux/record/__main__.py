@@ -16,6 +16,8 @@ inconclusive; 75: another tool is running; 77: nothing could be recorded, or not
 from __future__ import annotations
 
 import itertools
+import sys
+import time
 from argparse import Namespace
 from contextlib import ExitStack, closing
 from typing import NoReturn
@@ -41,13 +43,21 @@ def commands_for(options: Namespace) -> list[list[str]]:
     return [[helper("workload"), *options.own[:3], str(order), *options.own[3:]] for order in options.order]
 
 
+def tell_progress(what: str, share: float, last: list[float]) -> None:
+    """Writes a line on a terminal's standard error, once a second (`last`: when it did): how much of something is done."""
+    if sys.stderr.isatty() and time.monotonic() > last[0] + 1:
+        last[0] = time.monotonic()
+        print(f"\r{NAME}: {what}: {share:.0%}\033[K", end="\r", file=sys.stderr, flush=True)
+
+
 def check_recording(options: Namespace, recording: Recording, page_size: int, outputs: Outputs, report: Report) -> int:
     """Builds the journal of a recording, of each queue and order, writes what is wanted, and prints the report; returns the status."""
     with ExitStack() as stack:
-        builders = []
+        builders, last = [], [time.monotonic()]
         for number, track in enumerate(recording.tracks):
             stack.callback(track.store.close)
             outputs.write(f"records {number}", track.store.pieces())
+            track.store.tell = lambda share: tell_progress("analysing", share, last)
             track.store.link()
             for order in options.order:
                 threshold = recording.threshold if order == PMD_ORDER else None  # only pages of PMD size can be underused

@@ -7,6 +7,7 @@ from __future__ import annotations
 
 import enum
 from dataclasses import dataclass
+from functools import lru_cache
 
 from ..common.files import BASE
 from .records import Record
@@ -76,6 +77,12 @@ def list_effects(call: Record, answer: int | None = None) -> list[Effect]:
     if number == MPROTECT or (number == MADVISE and third in CUTTING):
         return [Effect(MappingChange.CUTS, start, end)]
     return [Effect(MappingChange.LOSES, start, end)] if number == MADVISE and third in LOSING else []
+
+
+@lru_cache(maxsize=1024)
+def list_removals(call: Record) -> list[Effect]:
+    """Returns the effects of a call that still runs that remove mappings."""
+    return [each for each in list_effects(call) if each.change in REMOVING]
 
 
 def _list_mremap_effects(start: int, old: int, new: int, answer: int | None) -> list[Effect]:

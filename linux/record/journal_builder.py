@@ -17,6 +17,7 @@ from ..common.files import BASE, PMD_ORDER
 from ..common.subpages import runs
 from .calls import COLLAPSE, COPIED, MADVISE, MADV_COLLAPSE, has_succeeded
 from .observed import Observations
+from .queue_laws import QueueLaws
 from .reasons import Count, Doubt, Omission
 from .records import IN_FAULT, OBSERVED, QUEUE_MOST, WITH_QUEUE, Kind, Record
 from .scans import ScanEvents
@@ -36,15 +37,19 @@ class JournalBuilder(ScanEvents):
 
     def add_records(self, records: Iterable[Record]) -> None:
         """Adds all records of a run; a Store has linked them."""
+        laws = QueueLaws(self)
+        handlers = [getattr(self, f"handle_{kind.name.lower()}", lambda record: None) for kind in Kind]  # a fault has only ended a step
         for record in records:
             if record.kind in OBSERVED:  # none of these changes the journal
                 page, scan = self.at.get(record.values[0]), None if self.is_doubted else self.scans.get(record.task)
                 is_ordered = scan and len(self.scans) == len(scan.batches) == 1
                 self.observations.add(record, page.number if page else None, scan.start.queue if scan and is_ordered else None)
                 continue
+            laws.see(record)
             self.now, self.task = record.time, record.task
-            self.ends.update(record.space_ends or {})
-            if record.kind in WITH_QUEUE and record.queue is None and len(self.queue) > QUEUE_MOST:
+            if record.space_ends:
+                self.ends.update(record.space_ends)
+            if record.queue is None and len(self.queue) > QUEUE_MOST and record.kind in WITH_QUEUE:
                 self.tallies[Count.COPIES_MISSING] += 1
                 self.begin_doubt(Doubt.LONG_QUEUE)
             if record.queue is not None and record.time < self.emitted_until:
@@ -53,7 +58,7 @@ class JournalBuilder(ScanEvents):
             if record.kind not in (Kind.FREE, Kind.CONTENTS):  # an interrupt frees in any task's name
                 self._end_last_step(record)
             if not record.is_applied:
-                getattr(self, f"handle_{record.kind.name.lower()}")(record)
+                handlers[record.kind](record)
 
     def _end_last_step(self, record: Record) -> None:
         """Ends what a task's last record has begun: its next record shows that it is over."""
@@ -95,9 +100,6 @@ class JournalBuilder(ScanEvents):
         for pages in (self._fault_pages, self.joining):
             for task in [task for task, page in pages.items() if not page.is_live]:
                 del pages[task]
-
-    def handle_fault(self, record: Record) -> None:
-        """Nothing: it has shown that the task's last step is over."""
 
     def handle_alloc(self, record: Record) -> None:
         """Adds a page that a fault made, or begins a collapse: it counts as a call that unmaps a region, until its end or until

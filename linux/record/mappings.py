@@ -6,7 +6,7 @@ from dataclasses import dataclass, field, replace
 
 from ..common.files import BASE, PMD_ORDER
 from ..common.subpages import bits_of, runs
-from .calls import COLLAPSE, REMOVING, Effect, MappingChange, list_effects
+from .calls import COLLAPSE, REMOVING, Effect, MappingChange, list_effects, list_removals
 from .reasons import Count, Omission
 from .records import Record
 from .state import Mapping, Page, State
@@ -21,7 +21,7 @@ class MappingEvents(State):
     def apply(self, record: Record, queue: list[int] | None, answer: int = 0) -> None:
         """Emits what a system call did to the pages that it reaches."""
         for effect in list_effects(record, answer):
-            for page in self._pages_in(record.space, effect):
+            for page in self.pages_between(record.space, effect.start, effect.end):
                 self._apply_effect(record, effect, page, queue)
             if effect.change is MappingChange.MOVES:
                 self._remapped.add(record.space)
@@ -31,15 +31,15 @@ class MappingEvents(State):
     def apply_early(self, record: Record, page: Page, queue: list[int] | None) -> None:
         """Emits what a running call has done to one page. Events of the other pages that the call reaches follow at its
         end, or as soon as something shows them."""
-        for effect in list_effects(record):
-            if effect.change in REMOVING and record.space in page.maps:
+        for effect in list_removals(record):
+            if record.space in page.maps:
                 self._apply_effect(record, effect, page, queue)
 
     def reaches(self, call: Record, page: Page) -> bool:
         """Returns whether a running call removes mappings of a page that were not emitted early."""
         mapping = page.maps.get(call.space)
         return mapping is not None and any(
-            self._subpages_in_range(call, each, page) & mapping.bits for each in list_effects(call) if each.change in REMOVING)
+            self._subpages_in_range(call, each, page) & mapping.bits for each in list_removals(call))
 
     def calls_reaching(self, page: Page) -> list[Record]:
         """Returns the running calls that remove mappings of a page."""
@@ -51,7 +51,8 @@ class MappingEvents(State):
         if parent == child:
             return
         for page, mapping in list(self.spaces.get(parent, {}).items()):
-            copy = page.maps[child] = self.spaces[child][page] = replace(mapping, space=child, since=self.now)
+            copy = replace(mapping, space=child, since=self.now)
+            self.add_mapping(page, copy)
             if mapping.whole:
                 self.emit(record.task, page, "mapwhole")
                 continue
@@ -64,6 +65,7 @@ class MappingEvents(State):
         space = record.space = record.values[0]
         self.ends.pop(space, None)
         self._remapped.discard(space)
+        self._places.pop(space, None)
         for page, mapping in sorted(self.spaces.pop(space, {}).items(), key=lambda each: each[1].base):
             self.unmap(record, page, mapping, page.every, record.queue)
 
@@ -136,12 +138,6 @@ class MappingEvents(State):
         if record.space in self._remapped:
             self.omit(page, Omission.MOVED_COLLAPSE)
 
-    def _pages_in(self, space: int, effect: Effect) -> list[Page]:
-        """Returns the pages that an address space maps in a range, by their addresses."""
-        found = [(mapping.base, page) for page, mapping in self.spaces.get(space, {}).items()
-                 if mapping.base < effect.end and mapping.base + page.subpages * BASE > effect.start]
-        return [page for _, page in sorted(found, key=lambda each: each[0])]
-
     def _apply_effect(self, record: Record, effect: Effect, page: Page, queue: list[int] | None) -> None:
         """Applies an effect of a call to one page."""
         mapping, bits = page.maps[record.space], self._subpages_in_range(record, effect, page)
@@ -175,6 +171,7 @@ class MappingEvents(State):
         if mapping.whole and page.subpages == 1 << PMD_ORDER and by % (BASE << PMD_ORDER):
             self._split_pmd(record, page, mapping)
         mapping.base, mapping.since = mapping.base + by, self.now
+        self.add_mapping(page, mapping)
 
     def _split_pmd(self, record: Record, page: Page, mapping: Mapping) -> None:
         """Turns a PMD mapping into PTE mappings."""

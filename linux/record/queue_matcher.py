@@ -2,6 +2,7 @@
 
 from __future__ import annotations
 
+from .calls import list_removals
 from .mappings import MappingEvents
 from .reasons import Count, Doubt, Omission
 from .records import Kind
@@ -9,7 +10,8 @@ from .state import Page
 
 
 class QueueMatcher(MappingEvents):
-    """Matches the journal's queue with copies of the kernel's (folios, oldest first), and compares them."""
+    """Matches the journal's queue with copies of the kernel's (folios, oldest first), and compares them. Of a page that was made after
+    a copy was begun it shows nothing: it may show the former page at that place."""
 
     def match(self, queue: list[int] | None) -> None:
         """Emits events of running calls until the journal's queue matches a copy of the kernel's, and compares both."""
@@ -18,27 +20,31 @@ class QueueMatcher(MappingEvents):
         if self._is_journal_queue(queue):
             self._count(False)
             return
+        shown = {*queue}
         for page in self.joining.values():
-            page.has_joined = page.has_joined or page.folio in queue
+            page.has_joined = page.has_joined or page.folio in shown and page.born <= self.now
         self.emit_early_joins(queue)
         if self.scans:
             return
         for page in list(self.queue):
-            if page.folio not in queue and page not in self.joining.values() and page in self.queue:
+            if page.folio not in shown and page not in self.joining.values() and page in self.queue and page.born <= self.now:
                 self._emit_leave(page, queue)
         for page in self.joining.values():
             if page.folio not in queue and page in self.queue and not page.is_freed:
                 self.move_to_end({page})  # its allocation put it into our queue, but it is not in the kernel's yet
-        found = [self.at.get(folio) for folio in queue]
-        self._reorder([page for page in found if page and page in self.queue])
-        skip = set(self.joining.values())
+        found = [page for page in map(self.at.get, queue) if page and page.born <= self.now]
+        own_queue = {*self.queue}
+        self._reorder([page for page in found if page in own_queue])
+        skip = {*self.joining.values(), *(page for page in self.queue if page.born > self.now)}
         mine = [page for page in self.queue if not page.is_omitted and page not in skip]
-        kernels = [page for page in found if page and not page.is_omitted and page not in skip]
-        self._count(mine != kernels)
+        kernels = [page for page in found if not page.is_omitted and page not in skip]
+        if {*mine} <= {*kernels}:  # else a call that runs may be why a page has left
+            self._count(mine != kernels)
 
     def _count(self, differs: bool) -> None:
         """Counts a comparison, unless something runs that may have changed the queue in a way that isn't emitted yet."""
-        if not any(call.kind is Kind.COLLAPSED or any(self.reaches(call, page) for page in self.spaces.get(call.space, ()))
+        if not any(call.kind is Kind.COLLAPSED or any(self.reaches(call, page) for each in list_removals(call)
+                                                      for page in self.pages_between(call.space, each.start, each.end))
                    for call in self.pending.values()):
             self.tallies[Count.QUEUES_COMPARED] += 1
             self.tallies[Doubt.QUEUES if self.is_doubted else Count.QUEUES_DIFFER] += differs
@@ -52,7 +58,7 @@ class QueueMatcher(MappingEvents):
         """Returns whether a copy equals the journal's queue and nothing runs that it could show: the usual case, and quick."""
         if self.scans or self.joining or len(queue) != len(self.queue):
             return False
-        same = all(page.folio == folio and self.at.get(folio) is page for page, folio in zip(self.queue, queue))
+        same = [page.folio for page in self.queue] == queue and [*map(self.at.get, queue)] == self.queue
         return same and all(call.kind is not Kind.COLLAPSED for call in self.pending.values())
 
     def emit_early_joins(self, queue: list[int]) -> None:
@@ -65,7 +71,7 @@ class QueueMatcher(MappingEvents):
                 self.apply(self.pending.pop(made[folio]), queue)
                 continue
             page = self.at.get(folio)
-            if not page or folio in own_queue or page.is_taken:
+            if not page or folio in own_queue or page.is_taken or page.born > self.now:
                 continue
             for call in self.calls_reaching(page):
                 if page not in self.queue:
@@ -77,7 +83,8 @@ class QueueMatcher(MappingEvents):
 
     def _emit_leave(self, page: Page, queue: list[int]) -> None:
         """Emits the event by which a page of our queue has left the kernel's."""
-        running = [call for call in self.pending.values() if call.space in page.maps]
+        page.missed = page.missed or self.now
+        running = [call for call in self.pending.values() if call.space in page.maps and call.time < page.missed]
         calls_reaching = self.calls_reaching(page)
         if not page.used_subpages():  # its last pin has gone, and the record of its free comes
             self.last_unpin(self.task, page)
@@ -108,19 +115,23 @@ class QueueMatcher(MappingEvents):
 
     def _reorder(self, kernels: list[Page]) -> None:
         """Moves events of a page to an earlier place: pages of two tasks may join in another order than that in which their calls end."""
-        mine = [page for page in self.queue if page in kernels]
+        these = {*kernels}
+        mine = [page for page in self.queue if page in these]
         for i, page in enumerate(kernels):
             other = mine[i]
             if other is page:
                 continue
-            first, last = self.place_of_join(other), self.place_of_join(page)
-            if not 0 <= first <= last:
-                return
-            window = self.lines.latest[first : last + 1]
-            own = [line for line in window if line.page == page.number]
-            self.lines.latest[first : last + 1] = own + [line for line in window if line.page != page.number]
-            for queue in (self.queue, self.journal_queue):
-                queue.remove(page)
-                queue.insert(queue.index(other), page)
+            late = other if page.is_omitted else next(each for each in mine[i:] if not each.is_omitted)
+            if late is not page and not page.is_omitted:  # the lines of a page that is left out have any place
+                first, last = self.place_of_join(late), self.place_of_join(page)
+                if not 0 <= first <= last:
+                    return
+                window = self.lines.latest[first : last + 1]
+                own = [line for line in window if line.page == page.number]
+                self.lines.latest[first : last + 1] = own + [line for line in window if line.page != page.number]
+                self.journal_queue.remove(page)
+                self.journal_queue.insert(self.journal_queue.index(late), page)
+            self.queue.remove(page)
+            self.queue.insert(self.queue.index(other), page)
             mine.remove(page)
             mine.insert(i, page)

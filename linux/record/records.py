@@ -10,8 +10,10 @@ from __future__ import annotations
 import enum
 import os
 import struct
+from array import array
+from bisect import bisect
 from dataclasses import dataclass
-from typing import Iterator
+from typing import Callable, Iterator
 
 from ..common.errors import RunFailed
 from .scratch import FOLDER, ScratchFile
@@ -52,7 +54,7 @@ class Kind(enum.IntEnum):
 WITH_QUEUE = frozenset([Kind.EXIT, Kind.EXIT_MMAP, Kind.SCAN, Kind.SCANNED, Kind.COLLAPSED])
 OBSERVED = frozenset([Kind.QUEUED, Kind.UNQUEUED, Kind.BATCH, Kind.TRIED])
 IN_FAULT, JOINED = 1, 2  # how a page is allocated; bits of a page that is in a list after the call alone
-_KINDS = tuple(Kind)
+_KINDS = tuple((kind, kind in WITH_QUEUE) for kind in Kind)
 _SUBPAGES = (1 << 23) - 1  # of _nr_pages_mapped: the bits above it tell whether a PMD entry maps the page
 
 
@@ -75,6 +77,7 @@ class Record:
     next_queue: list[int] | None = None  # of a scan's end without a copy: the next copy, if no scan began before it
     folios_made: dict[int, int] | None = None  # of a scan: folios that were allocated until its end, and when last
     space_ends: dict[int, Record] | None = None  # the ends of the address spaces that this record shows first
+    twice: int = 0  # a folio that the walk met twice; there is no queue then
 
     def queue_at_end(self) -> list[int] | None:
         """Returns the queue at a scan's end, by its own copy or the next."""
@@ -90,20 +93,18 @@ class Record:
 def parse_record(raw: bytes, place: int = 0) -> Record:
     """Returns a record by its bytes, which begin at a place."""
     words, at = HEAD.unpack_from(raw, place), place + HEAD.size
-    kind, count = _KINDS[words[0]], words[14]
+    (kind, has_queue), count = _KINDS[words[0]], words[14]
     queue: list[int] | None = None
-    contents = None
-    if kind in WITH_QUEUE and count <= QUEUE_MOST:
-        queue = list(struct.unpack_from(f"<{count}Q", raw, at))
-        queue = queue if len({*queue}) == len(queue) else None  # a walk of a list that changes may meet a page again
+    contents, twice = None, 0
+    if has_queue and count <= QUEUE_MOST:
+        folios = struct.unpack_from(f"<{count}Q", raw, at)
+        if len({*folios}) < count:  # a walk of a list that changes may meet a page again
+            twice = next(folio for folio in folios if folios.count(folio) > 1)
+        else:
+            queue = [*folios]
     elif kind is Kind.CONTENTS:
         contents = int.from_bytes(raw[at : at + SET], "little"), int.from_bytes(raw[at + SET : at + 2 * SET], "little")
-    return Record(kind, words[1], words[2] & _WORD, words[3], words[4:13], queue, contents, False, words[13], words[15])
-
-
-def room_of(length: int) -> int:
-    """Returns the bytes that a record of this length takes in the file."""
-    return RING_HEAD + (length + 7 & ~7)
+    return Record(kind, words[1], words[2] & _WORD, words[3], words[4:13], queue, contents, False, words[13], words[15], twice=twice)
 
 
 class Store(ScratchFile):
@@ -112,10 +113,12 @@ class Store(ScratchFile):
     def __init__(self, folder: str = FOLDER) -> None:
         super().__init__("the records", folder)
         self.count = 0  # of the records
+        self.tell: Callable[[float], None] = lambda share: None  # is called now and then with the share of a pass that is over
+        self._made = array("Q"), array("Q"), array("Q")  # of each huge page allocated: its record's place, folio and time
 
     def add(self, raw: bytes) -> None:
         """Appends one record."""
-        self.append((_LINK.pack(len(raw)) + raw).ljust(room_of(len(raw)), b"\0"))
+        self.append(_LINK.pack(len(raw)) + raw + bytes(-len(raw) % 8))
         self.count += 1
 
     def link(self) -> None:
@@ -123,8 +126,11 @@ class Store(ScratchFile):
         copy of the queue with the next one, and the first record of each address space with the space's end, which gets the time from
         when on nothing else was recorded of the space."""
         linker = _Linker(self)
-        for at, record in self._walk():
+        for at, record in self._walk(with_frees=False):
             linker.see(at, record)
+            if record.kind is Kind.ALLOC:
+                for values, value in zip(self._made, (at, record.values[0], record.time)):
+                    values.append(value)
 
     def records(self) -> Iterator[Record]:
         """Yields the linked records in order."""
@@ -141,8 +147,9 @@ class Store(ScratchFile):
                 record.end = self._record_at(record.link)
             if record.end and record.kind is Kind.SCAN:
                 ends[record.link] = record.end
-                made = (each for _, each in self._walk(at - RING_HEAD, record.link) if each.kind is Kind.ALLOC)
-                record.folios_made = {each.values[0]: each.time for each in made}
+                places, folios, times = self._made
+                made = slice(bisect(places, at), bisect(places, record.link))
+                record.folios_made = dict(zip(folios[made], times[made]))
             record.space_ends = space_ends or None
             yield record
 
@@ -152,19 +159,22 @@ class Store(ScratchFile):
             record.next_queue = self._record_at(record.link).queue
         return record
 
-    def _walk(self, at: int = 0, end: int | None = None) -> Iterator[tuple[int, Record]]:
-        """Yields the records from a place in the file to another, each with its own place."""
-        end = self.size if end is None else end
-        with self.open_again() as file:
-            file.seek(at)
-            while at < end:
-                head = file.read(RING_HEAD)
-                room = room_of(*_LINK.unpack(head)) if len(head) == RING_HEAD else 0
-                raw = file.read(room - RING_HEAD)
-                if not room or len(raw) < room - RING_HEAD:
-                    raise RunFailed("the records on disk end within a record")
-                yield at + RING_HEAD, parse_record(raw)
-                at += room
+    def _walk(self, with_frees: bool = True) -> Iterator[tuple[int, Record]]:
+        """Yields the records in order, each with its place in the file, perhaps without those of frees, which are most."""
+        rest, place, end = b"", 0, self.size  # what is left of the last piece, and where that is
+        for piece in self.pieces():
+            data, at = rest + piece, 0
+            self.tell(place / end)
+            while len(data) >= at + RING_HEAD:
+                begin, length = at + RING_HEAD, _LINK.unpack_from(data, at)[0]
+                if len(data) < begin + length + -length % 8:
+                    break
+                if with_frees or data[begin] != Kind.FREE:
+                    yield place + begin, parse_record(data, begin)
+                at = begin + length + -length % 8
+            rest, place = data[at:], place + at
+        if rest:
+            raise RunFailed("the records on disk end within a record")
 
 
 class _Linker:

@@ -14,7 +14,7 @@ from ..common.files import NewFile
 from ..common.journal import Node, journal_lines
 from ..common.text import escape, text_lines
 from .journal_builder import JournalBuilder
-from .reasons import Count, Doubt, Omission, Reason, describe
+from .reasons import PROVED, Count, Doubt, Omission, Reason, describe
 from .recorder import Recording
 from .scratch import ScratchFile
 from .state import MOST_BLOCKS
@@ -124,14 +124,15 @@ class Report:
         doubts = [f"{tallies[doubt]} {doubt.text} [{describe(doubt)}]" for doubt in Doubt if tallies[doubt]]
         is_whole = not any(tallies[doubt] for doubt in (Doubt.LOST, Doubt.MISSED, Doubt.DISK_FULL))
         line, explained = journal.check(self._by)
-        if line is not None:
-            doubt = doubt_at(builders, line)
-            if is_whole and not doubt:
-                return DIFFERS, f"illegal line {line}", explained
+        doubt = None if line is None else doubt_at(builders, line)
+        if line is not None and is_whole and not doubt:
+            return DIFFERS, f"illegal line {line}", explained
+        proved = [count for count in PROVED if tallies[count] and is_whole]
+        if line is not None and not proved:
             why = f"{doubt.text} [{describe(doubt)}]" if doubt else "records are missing"
             return INCONCLUSIVE, "inconclusive", [f"line {line} would be illegal, but for {why}", *explained, *doubts]
-        if tallies[Count.QUEUES_DIFFER] and is_whole:
-            return DIFFERS, "differs", [f"{tallies[Count.QUEUES_DIFFER]} copies of the queue aren't the journal's queue"]
+        if proved or tallies[Count.QUEUES_DIFFER] and is_whole:
+            return DIFFERS, "differs", [f"{tallies[count]} {count.text}" for count in (*proved, Count.QUEUES_DIFFER) if tallies[count]]
         if doubts:
             return INCONCLUSIVE, "inconclusive", doubts
         if letters and self._is_strict:

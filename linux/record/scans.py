@@ -40,7 +40,7 @@ class ScanEvents(QueueMatcher):
             self.begin_doubt(Doubt.OVERLAP)
         joining = [page for page in self.joining.values() if page.folio not in record.queue]
         batches = [*batches_of(*record.values[:2])]
-        pages = [self.at.get(folio) for folio in record.queue]
+        pages = [page if page and page.born <= record.time else None for page in map(self.at.get, record.queue)]
         self.scans[record.task] = Scan(record, pages, joining, batches, sum(count for _, count in batches))
 
     def handle_scanned(self, record: Record, observed: list[int] | None = None) -> None:
@@ -49,7 +49,9 @@ class ScanEvents(QueueMatcher):
         if not scan:
             return
         own = record.queue if observed is None else observed
-        if not scan.batches or not scan.start.queue:
+        if scan.batches and own is not None:
+            self._add_faulted(scan, own)
+        if not scan.batches or not scan.pages:
             self.match(own)
             return
         self.emitted_until = max(self.emitted_until, min(record.time, self.now))
@@ -65,7 +67,8 @@ class ScanEvents(QueueMatcher):
         self.tallies[Count.SCANS] += 1
         self._add_faulted(scan, queue)
         self._emit_frees(scan.pages, queue)
-        places = [queue.index(page.folio) for page in scan.pages[: scan.reach] if page and page.is_live and page.folio in queue]
+        place = {folio: at for at, folio in enumerate(queue)}
+        places = [place[page.folio] for page in scan.pages[: scan.reach] if page and page.is_live and page.folio in place]
         self.emit_early_joins(queue[: max(places, default=0)])  # running calls queued these before the scan put pages back
         self._take_before(scan)
         # what precedes a page that it took, and wasn't taken, has joined later, though that was recorded before
@@ -90,8 +93,9 @@ class ScanEvents(QueueMatcher):
             if not start.end or not end or not start.queue or queue is None or self.now < start.time:
                 continue  # a copy that was begun before the scan shows nothing of it
             made = start.folios_made or {}  # in these folios the scan's end shows other pages
-            back = [folio for folio in end if folio in start.queue[:reach] and folio not in made]
-            new = [folio for folio in queue if folio not in own_queue and folio not in start.queue and made.get(folio, 0) <= self.now]
+            before, taken = {*start.queue}, {*start.queue[:reach]}
+            back = [folio for folio in end if folio in taken and folio not in made]
+            new = [folio for folio in queue if folio not in own_queue and folio not in before and made.get(folio, 0) <= self.now]
             if not {*back} <= {*queue}:
                 continue  # it still puts pages back, one by one (Linux 7)
             if any(folio in end and back and end.index(back[0]) < end.index(folio) for folio in new):
@@ -101,9 +105,10 @@ class ScanEvents(QueueMatcher):
     def _batch(self, scan: Scan, first: int, count: int, found: list[Page | None]) -> list[Page]:
         """Returns the pages of a batch: those that were oldest at the scan's start, and of the last batch all that the scan has split. If
         these are too many, it has left some of the first, which are in the queue at its end."""
-        batch = [page for page in scan.pages[first : first + count] if page and page in self.queue]
+        queue, former = {*self.queue}, scan.pages[: first + count]
+        batch = [page for page in former[first:] if page and page in queue]
         if not scan.batches:
-            batch += [page for page in scan.split if page in self.queue and page not in scan.pages[: first + count]]
+            batch += [page for page in scan.split if page in queue and page not in former]
         left = [page for page in batch if page in found][: max(len(batch) - count, 0)]
         return [page for page in batch if page not in left]
 
@@ -113,7 +118,8 @@ class ScanEvents(QueueMatcher):
         batch = [page for page in scan.taken if page.is_live] or self._batch(scan, first, count, found)
         for page in batch:
             page.last_change = max(scan.start.end.time if scan.start.end else 0, self.now)
-        stay = [page for page in found if page and page in batch]
+        mine = {*batch}
+        stay = [page for page in found if page and page in mine]
         if len(stay) > 1 and stay == [page for page in reversed(scan.pages) if page in stay]:
             self.tallies[Count.REVERSED] += 1
         self._omit_requeued(scan.start, stay, found)
@@ -184,8 +190,8 @@ class ScanEvents(QueueMatcher):
             is_gone = page.folio not in queue and not page.is_freed
             if not is_new or not is_gone or page in scan.pages or len(scan.pages) >= scan.start.values[0]:
                 continue
-            if page in self.joining.values() and not page.has_joined:
-                page.is_perhaps_taken = True
+            if page.is_perhaps_taken or page in self.joining.values() and not page.has_joined:
+                page.is_perhaps_taken = True  # by this scan, or by one before
             else:
                 scan.pages.append(page)
 

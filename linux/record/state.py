@@ -6,6 +6,7 @@ from __future__ import annotations
 import functools
 import itertools
 import operator
+from bisect import bisect_left, insort
 from collections import Counter as Tallies
 from collections import defaultdict
 from dataclasses import dataclass, field
@@ -20,6 +21,7 @@ from .scratch import JournalLine, JournalLines
 
 MOST_BLOCKS, CALLERS = 4096, 64  # of a journal's node (docs/FORMATS.md)
 FOREVER = 1 << 64
+SPARE_PLACES = 64  # of an address space's former mappings
 SPARE_BLOCKS = 8  # of a journal's node, beyond the pages that lived at once
 
 
@@ -65,6 +67,7 @@ class Page:
     is_tried: bool = False  # a scan tried it
     has_joined: bool = False  # a copy of the queue showed it before its task's next record
     is_perhaps_taken: bool = False  # it joined at its fault while a scan ran, which took it then or not
+    missed: int = 0  # when a copy of the queue first lacked it
     last_change: int = 0  # when the last call that reached it was recorded
     join: JournalLine | None = None  # the event by which it joined the queue
 
@@ -124,6 +127,7 @@ class State:
     task: int = 0  # and its task
     _doubts: list[tuple[Doubt, int, int]] = field(default_factory=list)  # why the order of events isn't known, from when to when
     _equal: int = 0  # when a copy of the queue was equal to the journal's
+    _places: dict[int, list[tuple[int, int, Page]]] = field(default_factory=lambda: defaultdict(list))  # of pages, also former ones
     _callers: dict[int, int] = field(default_factory=dict)  # the journal's numbers of tasks
     _live: int = 0
     _most: int = 0  # pages that lived at once
@@ -202,7 +206,7 @@ class State:
         page = self.at[folio] = Page(len(self.omitted), folio, 1 << self.order, every, every, self.now)
         self.omitted.append(False)
         mapping = Mapping(space, address & -(BASE << self.order), True, every, self.now)
-        page.maps[space] = self.spaces[space][page] = mapping
+        self.add_mapping(page, mapping)
         self._live += 1
         self._most = max(self._most, self._live)
         self.emit(task, page, "alloc")
@@ -210,6 +214,20 @@ class State:
         if self.underused is not None and self.order == PMD_ORDER:
             self.enqueue(page)
         return page
+
+    def add_mapping(self, page: Page, mapping: Mapping) -> None:
+        """Adds an address space's mapping of a page, or one that has moved."""
+        pages, places = self.spaces[mapping.space], self._places[mapping.space]
+        page.maps[mapping.space] = pages[page] = mapping
+        insort(places, (mapping.base, page.number, page))
+        if len(places) > 2 * len(pages) + SPARE_PLACES:
+            places[:] = sorted((each.base, page.number, page) for page, each in pages.items())
+
+    def pages_between(self, space: int, start: int, end: int) -> list[Page]:
+        """Returns the pages that an address space maps in a range of addresses, by their addresses."""
+        pages, places = self.spaces.get(space, {}), self._places.get(space, [])
+        near = places[bisect_left(places, (start - (BASE << self.order) + 1,)) : bisect_left(places, (end,))]
+        return [*dict.fromkeys(page for base, _, page in near if page in pages and pages[page].base == base)]
 
     def enqueue(self, page: Page) -> None:
         """Adds a page to the queue, by the event emitted last."""

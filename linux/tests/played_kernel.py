@@ -6,6 +6,7 @@ tries them, older kernels all at a scan's end.
 
 from __future__ import annotations
 
+import itertools
 import random
 from dataclasses import dataclass
 from typing import Iterator
@@ -15,7 +16,7 @@ from ..record.records import IN_FAULT, Kind, Record
 
 BASE, PMD = 4096, 1 << 21
 SUBPAGES, EVERY = 512, (1 << 512) - 1
-FIRST_FOLIO, PAGE_SIZE = 0xFFFFEA0000008000 & -(64 * SUBPAGES), 64
+FIRST_FOLIO, FOREIGN, PAGE_SIZE = 0xFFFFEA0000008000 & -(64 * SUBPAGES), 0xFFFFEA0010000000, 64
 SPACE, SCANNER = 0xA000, 90
 MADVISE, DONTNEED, MUNMAP, WRITE_FAULT = 28, 4, 11, 6
 STEP = 10  # ns between two records
@@ -35,21 +36,34 @@ class PlayedPage:
     is_partly_mapped: bool = False
     is_listed: bool = False
     is_split: bool = False
-    is_held: bool = False  # by a scan
+    holders: int = 0  # scans
     is_free: bool = False
 
 
 class PlayedKernel:
-    """Threads of one process, and scans. `records` are those that a recording of them has."""
+    """Threads of one process, and scans. `records` are those that a recording of them has. A `bug` is one of:
 
-    def __init__(self, seed: int, one_by_one: bool, threshold: int | None, threads: int = 3) -> None:
+    shuffled    a scan tries its pages, and puts them back, in a random order
+    forward     in the order of taking, as the model does
+    newest      a scan takes the newest pages
+    head        a scan puts pages back at the queue's head
+    twice       a page joins the queue twice
+    foreign     a page of another group joins too
+    short       a split gives back a frame less
+    double      a split gives back a frame twice
+    taken       a page is freed while a scan holds it
+    """
+
+    def __init__(self, seed: int, one_by_one: bool, threshold: int | None, threads: int = 3, bug: str = "", scanners: int = 1) -> None:
         self.chance = random.Random(seed)
         self.records: list[Record] = []
         self.queue: list[PlayedPage] = []
-        self._one_by_one, self._threshold = one_by_one, threshold
+        self._one_by_one, self._threshold, self._bug = one_by_one, threshold, bug
+        self._foreign = itertools.count()
         self._free = list(range(4 * threads))  # frames of huge pages, which are used again
         self._places: dict[int, PlayedPage | None] = {}  # by address
-        self._tasks = [self._work(number) for number in range(1, threads + 1)] + [self._scan_again()]
+        self._tasks = [self._work(number) for number in range(1, threads + 1)]
+        self._tasks += [self._scan_again(SCANNER + number) for number in range(scanners)]
 
     def play(self, steps: int) -> list[Record]:
         """Takes steps of tasks picked at random; returns the records."""
@@ -122,18 +136,27 @@ class PlayedKernel:
         page.pins = 0
         self._put(task, page)
 
+    def _has_bug(self, bug: str, of: int = 4) -> bool:
+        """Returns whether it has a bug, once of so many times."""
+        return bool(bug) and self._bug == bug and not self.chance.randrange(of)
+
     def _join(self, page: PlayedPage) -> None:
         if not page.is_listed:
             page.is_listed = True
-            self.queue.append(page)
+            self.queue += [page, page] if self._has_bug("twice") else [page]
+            if self._has_bug("foreign"):
+                self.queue.append(PlayedPage(FOREIGN + PAGE_SIZE * SUBPAGES * next(self._foreign), 0, EVERY, 1, 1, True, True))
 
     def _put(self, task: int, page: PlayedPage) -> None:
         """Frees a page that nothing holds any more."""
-        if not (page.mapped or page.pins or page.is_held or page.is_split or page.is_free):
-            if page in self.queue:
-                self.queue.remove(page)
+        is_held = page.holders and self._bug != "taken"
+        if not (page.mapped or page.pins or is_held or page.is_split or page.is_free):
+            self._leave(page)
             self._record(Kind.FREE, task, [page.folio, 9])
             self._release(page)
+
+    def _leave(self, page: PlayedPage) -> None:
+        self.queue = [each for each in self.queue if each is not page]
 
     def _release(self, page: PlayedPage) -> None:
         if not page.is_free:
@@ -144,52 +167,61 @@ class PlayedKernel:
         for number in [number for first, count in runs(bits) for number in range(first, first + count)]:
             self._record(Kind.FREE, task, [page.folio + PAGE_SIZE * number, 0])
 
-    def _scan_again(self) -> Steps:
+    def _scan_again(self, task: int) -> Steps:
         while True:
             for _ in range(self.chance.randrange(30)):
                 yield
-            yield from self._scan()
+            yield from self._scan(task)
 
-    def _scan(self) -> Steps:
+    def _scan(self, task: int) -> Steps:
         freeable = len(self.queue)
         yield
-        total = freeable + self.chance.randrange(freeable + 1)
-        self._record(Kind.SCAN, SCANNER, [total, freeable], True)
+        total = freeable + (0 if self._has_bug(self._bug, 2) else self.chance.randrange(freeable + 1))
+        self._record(Kind.SCAN, task, [total, freeable], True)
         if not total:
-            self._record(Kind.SCANNED, SCANNER, [0, 0], True)
+            self._record(Kind.SCANNED, task, [0, 0], True)
             return
         yield
-        taken, self.queue = self.queue[:total], self.queue[total:]
+        taken = self.queue[-total:] if self._bug == "newest" else self.queue[:total]
         for page in taken:
-            page.is_held = True
+            self._leave(page)
+            page.holders += 1
         back: list[PlayedPage] = []
         split = 0
-        for page in reversed(taken):  # the newest first
+        for page in self._order_of_tries([*dict.fromkeys(taken)]):
             yield
             if self._one_by_one:
                 page.is_listed = False
-            is_split, stays = self._try(page)
+            is_split, stays = self._try(task, page)
             split += is_split
             yield
-            if stays and self._one_by_one:
+            if stays and self._one_by_one and not page.is_split:  # by another scan, which a call's queueing gave it
                 self._join(page)
-            elif stays:
+                if self._bug == "head":
+                    self.queue.insert(0, self.queue.pop())
+            elif stays and not self._one_by_one:
                 back.append(page)
                 continue
             page.is_listed = page.is_listed and self._one_by_one
             yield
-            self._let_go(page)
-        self.queue += back
+            self._let_go(task, page)
+        self.queue = back + self.queue if self._bug == "head" else self.queue + back
         yield
         for page in back:
-            self._let_go(page)
-        self._record(Kind.SCANNED, SCANNER, [0, split], True)
+            self._let_go(task, page)
+        self._record(Kind.SCANNED, task, [0, split], True)
 
-    def _let_go(self, page: PlayedPage) -> None:
-        page.is_held = False
-        self._put(SCANNER, page)
+    def _order_of_tries(self, taken: list[PlayedPage]) -> list[PlayedPage]:
+        """Returns the pages that a scan has taken in the order in which it tries them: the newest first."""
+        if self._bug == "shuffled":
+            self.chance.shuffle(taken)
+        return taken if self._bug in ("shuffled", "forward") else taken[::-1]
 
-    def _try(self, page: PlayedPage) -> tuple[bool, bool]:
+    def _let_go(self, task: int, page: PlayedPage) -> None:
+        page.holders -= 1
+        self._put(task, page)
+
+    def _try(self, task: int, page: PlayedPage) -> tuple[bool, bool]:
         """Returns whether a page was split, and whether it is put back."""
         zeros = size(EVERY & ~page.data)
         underused = self._threshold is not None and not page.is_partly_mapped and zeros > self._threshold
@@ -198,10 +230,10 @@ class PlayedKernel:
         if page.pins or not page.mapped:
             return False, page.is_partly_mapped
         page.is_split, page.is_listed = True, False
-        if page in self.queue:  # a call has queued it meanwhile
-            self.queue.remove(page)
-        gone = ~page.mapped | ~page.data
-        self._free_frames(SCANNER, page, EVERY & gone)
+        self._leave(page)  # a call may have queued it meanwhile
+        gone = EVERY & (~page.mapped | ~page.data)
+        self._free_frames(task, page, gone & (gone - 1) if self._bug == "short" else gone)
+        self._free_frames(task, page, gone & -gone if self._bug == "double" else 0)
         page.mapped &= page.data
         if not page.mapped:
             self._release(page)

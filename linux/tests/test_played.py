@@ -9,9 +9,10 @@ from ..common.journal import journal_text
 from ..common.program import Program
 from ..record.reasons import Count
 from .played_kernel import PlayedKernel, PlayedPage
-from .written_records import PLAIN, JournalCase, store_records, words_of
+from .written_records import PLAIN, JournalCase, WrittenRecords, store_records, words_of
 
 THRESHOLD, THREADS, STEPS = 100, 4, 400
+BUGS = (("twice", 1, Count.MET_TWICE), ("taken", 1, Count.QUEUED_FREE), ("head", 1, Count.OVERTAKEN), ("shuffled", 9, Count.DIRECTIONS))
 
 
 class PutBackTest(JournalCase):
@@ -42,6 +43,20 @@ class OverlapTest(JournalCase):
                              "d:end > 0; look > 0", "taken 2; split 2 0-7; pin 0; pinned 0; split 1 0-7; back 0")
         self.assertEqual(builder.tallies[Count.SCANS], 2)
 
+    def test_a_put_back_that_a_call_sees_before_its_scan_has_ended(self) -> None:
+        """A second scan takes page 0 again and holds it while a third one takes page 3."""
+        self.check("divided 2; page 2; page 3; d:begin > 0 1; d:free 1 0 8; drop 2 0 8 > 0 2; d:end > 0 2; begin > 0 2; o:drop 3 0 8 > 3; "
+                   "o:begin > 3; o:free 3 0 8; o:end > -; free 2 0 8; end > 0; look > 0",
+                   "taken 3; split 3 0-7; pinned 0; split 2 0-7; back 0")
+
+    def test_a_scan_that_is_asked_for_too_few_pages_takes_none(self) -> None:
+        self.check("divided 3; d:begin > 0 1 2; d:end > 2 1 0; d:begin 2 3 > 2 1 0; d:end > 2 1 0", "back 0; back 1; back 2")
+
+    def test_a_copy_that_was_begun_before_a_page_was_made_shows_the_former_one(self) -> None:
+        records = WrittenRecords("divided 3; unmap 1 > 0 2; page 5 1; drop 5 0 8 > 0 2 1; o:look > 0 1 2")
+        records.records[-1].time = records.records[-8].time  # the walk began before page 1 was freed
+        self.check(records, "unmapsub 3 0 8 queued -")
+
 
 class WrongKernel(PlayedKernel):
     """One whose pages join the queue at its head."""
@@ -62,6 +77,12 @@ class PlayedTest(JournalCase):
                 builder = self.build(store_records(records), THRESHOLD)
                 self.check_legal(builder)
                 self.assertGreater(10 * builder.pages, 60 * builder.left_out)
+
+    def test_copies_alone_prove_some_bugs(self) -> None:
+        for bug, seed, law in BUGS:
+            with self.subTest(bug):
+                tallies = self.build(store_records(PlayedKernel(seed, False, None, THREADS, bug).play(3 * STEPS))).tallies
+                self.assertTrue(tallies[law])
 
     def test_a_wrong_kernel_is_found(self) -> None:
         for seed in range(1, 5):

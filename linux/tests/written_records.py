@@ -14,7 +14,7 @@ from ..common.journal import journal_text
 from ..common.program import Program
 from ..record.calls import MADVISE, MUNMAP
 from ..record.journal_builder import JournalBuilder
-from ..record.reasons import Count, Omission
+from ..record.reasons import PROVED, Count, Omission
 from ..record.records import HEAD, IN_FAULT, QUEUE_MOST, SET, Kind, Record, Store
 
 SPACE, TASK, OTHER, DAEMON = 0xA000, 7, 12, 90  # an address space and two of its tasks; one of no group, which scans or collapses
@@ -168,7 +168,7 @@ class JournalCase(unittest.TestCase):
         """Checks that a journal is legal, by the plain reading, and its queue the kernel's."""
         text = journal_text([builder])
         self.assertTrue(Program(PLAIN).check(text).legal, text)
-        self.assertEqual(builder.tallies[Count.QUEUES_DIFFER], 0)
+        self.assertEqual([count for count in (Count.QUEUES_DIFFER, *PROVED) if builder.tallies[count]], [])
 
     def check(self, written: WrittenRecords | str, last: str | None, *omitted: Omission, threshold: int | None = None) -> JournalBuilder:
         """Checks that the journal is legal and ends with these events (has none for ""; None: with any), and that pages are left out
