@@ -94,8 +94,6 @@ class Count(Reason):
     QUEUES_DIFFER = "queues that differ", Origin.KERNEL
     MET_TWICE = "copies of the queue with a page twice, while no scan ran", Origin.KERNEL
     QUEUED_FREE = "pages in the queue after they were freed", Origin.KERNEL
-    OVERTAKEN = "copies of the queue in which a page precedes one that joined before it", Origin.KERNEL
-    DIRECTIONS = "scans that put pages back in neither order, or now in one and now in the other", Origin.KERNEL
     QUEUED_SEEN = "pages queued, as a copy showed"
     QUEUED_INFERRED = "pages queued, as inferred"
     MAP_COUNTS_COMPARED = "map counts compared"
@@ -106,7 +104,7 @@ class Count(Reason):
     WITHOUT_FAULT = "allocations without a fault, not followed", Origin.LIMIT
 
 
-PROVED = (Count.MET_TWICE, Count.QUEUED_FREE, Count.OVERTAKEN, Count.DIRECTIONS)  # by copies alone: any makes a recording differ
+PROVED = (Count.MET_TWICE, Count.QUEUED_FREE)  # by copies alone: any makes a recording differ
 
 
 def describe(reason: Reason) -> str:

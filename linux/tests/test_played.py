@@ -12,7 +12,7 @@ from .played_kernel import PlayedKernel, PlayedPage
 from .written_records import PLAIN, JournalCase, WrittenRecords, store_records, words_of
 
 THRESHOLD, THREADS, STEPS = 100, 4, 400
-BUGS = (("twice", 1, Count.MET_TWICE), ("taken", 1, Count.QUEUED_FREE), ("head", 1, Count.OVERTAKEN), ("shuffled", 9, Count.DIRECTIONS))
+BUGS = (("twice", 1, Count.MET_TWICE), ("taken", 1, Count.QUEUED_FREE))
 
 
 class PutBackTest(JournalCase):
