@@ -7,12 +7,12 @@ use Rattle.thp_history.specs.declared.shape.Shape.{Shape}
 use Rattle.thp_history.specs.Prelude.{History}
 use Rattle.thp_journal_writer.specs.Prelude.{Version, event_line, Journal, ended, journal_lines, journal_text, lines_of_node, node_line, version_line, version_of, text_begun, VersionComesFirst, NodeFollows, EventFollows, LeastVersionIsJournalText}
 use Rattle.thp_journal_writer.specs.Journals.{journal_lines_from}
-use Rattle.thp_journal_writer.proofs.JournalLemmas.{lines_from-more}
+use Rattle.thp_journal_writer.proofs.JournalLemmas.{journal_lines_from-more}
 
 -- with one more node
 with_node : (v : Version) (journals : List Journal) (j : Journal) → text_begun v (journals ++ j ∷ []) ≡ text_begun v journals ++ flat_map ended (lines_of_node v (length journals) j)
 with_node v journals j =
-    ap (λ ls. flat_map ended (version_line v ∷ ls)) (lines_from-more v 0 journals j)
+    ap (λ ls. flat_map ended (version_line v ∷ ls)) (journal_lines_from-more v 0 journals j)
     ∙ ap (λ k. flat_map ended (version_line v ∷ (journal_lines_from v 0 journals ++ lines_of_node v k j))) (from_none (length journals))
     ∙ flat_map-append ended (version_line v ∷ journal_lines_from v 0 journals) (lines_of_node v (length journals) j) where
       from_none : (n : ℕ) → 0 + n ≡ n

@@ -127,8 +127,8 @@ without_absent i (x ∷ xs) out = elim (eqb_tells x i) [
 ]
 
 -- taking out an index that stands between two parts joins them
-pub without-middle : (i : ℕ) (xs ys : List ℕ) → (Contains xs i → ⊥) → (Contains ys i → ⊥) → without_index i (xs ++ i ∷ ys) ≡ xs ++ ys
-without-middle i xs ys f g = grind (arith, filter-append, without_absent, eqb_tells)
+pub without_index-middle : (i : ℕ) (xs ys : List ℕ) → (Contains xs i → ⊥) → (Contains ys i → ⊥) → without_index i (xs ++ i ∷ ys) ≡ xs ++ ys
+without_index-middle i xs ys f g = grind (arith, filter-append, without_absent, eqb_tells)
 
 -- what is left after an index was taken out was there before, and is another
 pub Contains-from_without : (i : ℕ) (xs : List ℕ) (j : ℕ) → Contains (without_index i xs) j → Contains xs j × (j ≢ i)

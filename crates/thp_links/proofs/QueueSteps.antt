@@ -3,7 +3,7 @@ use Rattle.std.proofs.Common.{◌≡◌, ◌≢◌, ℕ, ◌+◌, ◌-◌, ◌<�
 use Rattle.std.proofs.lemmas.List.Elements.{Contains-append_left, Contains-append_right, Contains-push}
 use Rattle.std.proofs.lemmas.Option.{same_Some, none-some}
 use Rattle.thp_links.specs.Prelude.{Link, NIL, Distinct, Apart, without_index, last_or, between, Segment, Stands, SameOutside, HasEnds, with_next, with_prev}
-use Rattle.thp_links.proofs.Members.{Contains-head, Contains-behind, Contains-cons_cases, Contains-last, parts_of, Distinct-head, Distinct-behind, Distinct-cons, Distinct-left, Distinct-right, Distinct-without, Distinct-push, Apart-from_distinct, without-middle, first_or-absent, last_or-append, last_or-absent, length-distinct}
+use Rattle.thp_links.proofs.Members.{Contains-head, Contains-behind, Contains-cons_cases, Contains-last, parts_of, Distinct-head, Distinct-behind, Distinct-cons, Distinct-left, Distinct-right, Distinct-without, Distinct-push, Apart-from_distinct, without_index-middle, first_or-absent, last_or-append, last_or-absent, length-distinct}
 use Rattle.thp_links.proofs.Replacing.{slice_get-set_same, slice_get-set_other, length-with_next, length-with_prev}
 use Rattle.thp_links.proofs.Segments.{Segment-with_next, Segment-with_prev, Segment-set, Segment-inside, Segment-absent, Segment-last, Segment-first, Segment-relast, Segment-refirst, relast-other, refirst-other, Segment-append, Segment-left, Segment-right}
 
@@ -147,7 +147,7 @@ module _ (i : ℕ) (xs : List ℕ) (ls : List Link) (small : length ls ≤ NIL) 
   rest_is : without_index i xs ≡ before ++ after
   rest_is =
       ap (λ (zs : List ℕ). without_index i zs) split
-      ∙ without-middle i before after
+      ∙ without_index-middle i before after
       (λ m. (Apart-from_distinct before (i ∷ after) cut.distinct).never_both i m (Contains-head i after))
       (Distinct-head i after (Distinct-right before (i ∷ after) cut.distinct))
 
