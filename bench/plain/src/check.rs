@@ -38,7 +38,7 @@ pub fn first_illegal(text: &[u8]) -> Result<Option<usize>, TextFault> {
     if ended { Ok(illegal) } else { Err(TextFault { line: lines + 1, kind: Kind::Cut }) }
 }
 
-// does what an event shows of, and answers whether that is what happens
+// does what an event reports, and returns whether that is what happens
 fn is_replayed(node: &mut Node, event: &Event) -> bool {
     let c = event.caller;
     match event.what {

@@ -76,17 +76,17 @@ ending_back o word = rw (outcome_back o) refl
 
 -- ---- events, by the words behind their name
 
--- an event that reports a page alone
+-- an event that names a page alone
 page_event_back : (name : PageWord) (c p : ℕ) → c < 64 → p < 2 ^ 64 → page_event name (decimal c) (decimal p ∷ []) ≡ Ok (by c (page_what name p))
 unfolding page_event
 page_event_back name c p small lt = rw (caller_back c small, page_back p lt) refl
 
--- one that reports a range of its subpages
+-- one that names a range of its subpages
 range_event_back : (name : RangeWord) (c p first count : ℕ) → c < 64 → p < 2 ^ 64 → first < 2 ^ 16 → count < 2 ^ 16 → range_event name (decimal c) (decimal p ∷ decimal first ∷ decimal count ∷ []) ≡ Ok (by c (range_what name p first count))
 unfolding range_event
 range_event_back name c p first count small lt low high = rw (caller_back c small, page_back p lt, range_back first low, range_back count high) refl
 
--- one that reports what became of the page and what it gave back
+-- one that states what became of the page and what it gave back
 loss_event_back : (name : Loss) (o : Outcome) (c p : ℕ) (set : List Bool) → c < 64 → p < 2 ^ 64 → length set ≡ 512 → loss_event name (decimal c) (decimal p ∷ outcome_word o ∷ set_text set ∷ []) ≡ Ok (by c (loss_what name p o set))
 unfolding loss_event
 loss_event_back name o c p set small lt full = rw (ending_back o (set_text set), caller_back c small, page_back p lt, set_back set full) refl

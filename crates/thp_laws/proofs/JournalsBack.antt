@@ -124,7 +124,7 @@ text_lines js few h =
 read : {A : Type 0} → A → Result A Fault
 read x = Ok x
 
--- the journals that a text's lines can report are read back, but for their blocks
+-- the journals that a text's lines can state are read back, but for their blocks
 pub text_back : (js : List Journal) → 0 < length js → length js ≤ 8 → AllByRecursion (IsReportedJournal ((version_of js))) js → length (journal_text js) ≤ 16777216 → journals_of (journal_text js) ≡ Ok (record { nodes = nodes_from 2 js })
 unfolding journals_within journals_with journal_lines reported read
 text_back js some few h short =

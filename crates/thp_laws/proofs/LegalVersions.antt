@@ -67,7 +67,7 @@ each_quiet : (js : List Journal) → AllByRecursion Legal js → list_any report
 each_quiet [] legal e = tt
 each_quiet (j ∷ js) legal e = let t = or_parts _ _ e in (quiet j legal.0 t.0, each_quiet js legal.1 t.1)
 
--- version 3 reports all
+-- version 3 has lines for all of them
 in_3 : (js : List Journal) → AllByRecursion (IsReportedBy Underused) js
 in_3 [] = tt
 in_3 (j ∷ js) = (record { shape = tt; events = λ k e at. each_in_3 e.what }, in_3 js)
@@ -82,7 +82,7 @@ in_1 : (js : List Journal) → AllByRecursion IsQuiet js → list_all has_order_
 in_1 [] h e = tt
 in_1 (j ∷ js) h e = let t = and_parts _ _ e in (record { shape = (eqb-true j.0.order 9 t.0, h.0.off); events = h.0.events Plain }, in_1 js h.1 t.1)
 
--- the version that is written reports legal journals
+-- the version that is written has lines for legal journals
 pub version_reports : (js : List Journal) → AllByRecursion Legal js → AllByRecursion (IsReportedBy ((version_of js))) js
 unfolding version_of
 version_reports js legal = go (list_any reports_underused js) (list_all has_order_9 js) refl refl where

@@ -87,11 +87,11 @@ one_later n k = omega arith
 unfoldable pub happened : Event → Line
 happened e = Happened (event_with 0 e)
 
--- the lines that report a node and its events
+-- the lines of a node and its events
 unfoldable pub node_reported : ℕ → Journal → List Line
 node_reported n j = Node n j.0 ∷ map happened j.1
 
--- those that report nodes from number n on
+-- those of nodes from number n on
 unfoldable pub nodes_reported : ℕ → List Journal → List Line
 nodes_reported n [] = []
 nodes_reported n (j ∷ js) = node_reported n j ++ nodes_reported (n + 1) js

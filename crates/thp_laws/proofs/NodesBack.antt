@@ -37,11 +37,11 @@ head_said : (v : Version) → line_by Plain (codes "thp-journal") (decimal (jour
 unfolding line_by head_of read.parsed_version
 head_said x = grind (arith, decimal_digit)
 
--- the first line reports the version
+-- the first line states the version
 pub version_line_back : (v : Version) → read.line_of Plain (journal.version_line v) ≡ Ok (Head v)
 version_line_back v = line_of_words Plain (codes "thp-journal") (decimal (journal.version_number v) ∷ []) (version_plain v) ∙ head_said v
 
--- the last line reports the end
+-- the last line states the end
 pub end_line_back : (v : Version) → read.line_of v (codes "end") ≡ Ok End
 unfolding line_by
 end_line_back v = line_of_words v (codes "end") [] refl
@@ -88,7 +88,7 @@ underused_plain s is = grind (arith, is_plain, pow_mono, decimal_plain)
 pub node_plain : (v : Version) (n : ℕ) (s : Shape) → n < 8 → IsShape s → list_all is_plain (node_words v n s) ≡ true
 node_plain v n s few is = grind (arith, is_plain, decimal_plain, underused_plain)
 
--- the line of a node reports its number and its shape
+-- the line of a node states its number and its shape
 pub node_line_back : (v : Version) (n : ℕ) (s : Shape) → n < 8 → IsShape s → IsReportedShape v s → read.line_of v (journal.node_line v n s) ≡ Ok (Node n s)
 unfolding journal.node_line
 node_line_back v n s few is reported = by_version v (node_plain v n s few is) (node_said v n s few is reported) where

@@ -44,7 +44,7 @@ fewer_than_bytes js =
     let two = length-append (journal.journal_lines_from v 0 js) (codes "end" ∷ []) in
     few_events v 0 (length (journal_text js)) js (omega arith)
 
--- ---- what the lines of a journal can report
+-- ---- what the lines of a journal can state
 
 -- what holds of each holds at a place
 at_place : (P : Event → Type 0) (h : History) → All P h → (k : ℕ) (e : Event) → slice_get h k ≡ Some e → P e
@@ -54,7 +54,7 @@ at_place P h all k e at = go h (recursion_from_All P h all) k e at where
   go (x ∷ h) each zero e at = let same : x ≡ e = cc in subst P same each.0
   go (x ∷ h) each (suc k) e at = go h each.1 k e at
 
--- the events of a legal history, by a version that reports them
+-- the events of a legal history, by a version that has lines for them
 reportable : (v : Version) (j : Journal) → IsReadable j → IsReportedBy v j → length j.1 < 2 ^ 64 → IsReportedJournal v j
 reportable v j is reported few = record {
   shape = is.shape;

@@ -1,4 +1,4 @@
--- No line of a journal text reports a block.
+-- No line of a journal text contains a block.
 use Rattle.std.proofs.Common.{◌≡◌, ◌==◌, ◌+◌, ℕ, cond, ◌&&◌, ◌||◌, List, [], ◌∷◌, ◌++◌, map, refl, ap, ap₂, sym, ◌∙◌, codes, is_some, decimal}
 use Rattle.std.specs.List.{AllZip, flat_map, list_all, list_any}
 use Rattle.thp_history.specs.declared.events.Event.{Event}

@@ -161,7 +161,7 @@ module _ (s : Shape) (h : History) (c p b : ℕ) (old : PageStoreState) (m : IsN
 pub take_length : (s : Shape) (h : History) (c n : ℕ) → length (take_events s h c n) ≡ min n (length (queue s h))
 take_length s h c n = length-map (take n (queue s h)) (λ p. by c (what.Taken p)) ∙ length-take n (queue s h)
 
--- where a page in flight lies, reported of a node's parts
+-- where a page in flight lies, stated of a node's parts
 pub flies_inside : (inside now : NodeState) (c p b : ℕ) → inside ≡ now → IsFlyingAt now.table c p b → IsFlyingAt inside.table c p b
 flies_inside inside now c p b is w = record { slot = w.slot; at = ap (λ (n : NodeState). slot_at n.table b) is ∙ w.at; id_is = w.id_is; stands = w.stands }
 
