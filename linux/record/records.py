@@ -47,7 +47,7 @@ class Kind(enum.IntEnum):
 WITH_QUEUE = frozenset([Kind.EXIT, Kind.EXIT_MMAP, Kind.SCAN, Kind.SCANNED, Kind.COLLAPSED])
 IN_FAULT = 1
 _KINDS = tuple(Kind)
-_SUBPAGES = (1 << 23) - 1  # of _nr_pages_mapped: the bits above it tell whether a PMD entry maps the page
+_SUBPAGES = (1 << 23) - 1  # of _nr_pages_mapped: the bits above it show whether a PMD entry maps the page
 
 
 @dataclass(eq=False)
