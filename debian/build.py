@@ -52,7 +52,7 @@ UNDATED = 1_767_225_600
 
 
 def version() -> str:
-    """The version that the program tells, from the one place where it stands."""
+    """The version that the program reports, from the one place where it stands."""
     found = re.search(r'VERSION: &str = "([^"]+)"', (ROOT / "crates/thp_cli/src/version.rt").read_text())
     assert found is not None
     return found[1]
@@ -62,8 +62,8 @@ def date() -> int:
     """The date of all files in the packages, in seconds: SOURCE_DATE_EPOCH, or that of the commit."""
     given = os.environ.get("SOURCE_DATE_EPOCH", "")
     if not given and (ROOT / ".git").exists() and shutil.which("git"):
-        told = subprocess.run(["git", "log", "-1", "--format=%ct"], cwd=ROOT, capture_output=True, text=True)
-        given = told.stdout.strip()
+        done = subprocess.run(["git", "log", "-1", "--format=%ct"], cwd=ROOT, capture_output=True, text=True)
+        given = done.stdout.strip()
     return int(given) if re.fullmatch("[0-9]+", given) else UNDATED
 
 
@@ -76,10 +76,10 @@ def changelog(number: str) -> str:
 def proof(built: list[Path], architecture: str) -> str:
     """What release/proof.py states about the built files, or nothing, and then a line on standard error."""
     command = [sys.executable, str(ROOT / "release/proof.py"), "--arch", architecture, *map(str, built)]
-    told = subprocess.run(command, capture_output=True, text=True, errors="replace")
-    if told.returncode != 0:
-        print(f"packages without PROOF: {told.stderr.strip()[-400:]}", file=sys.stderr)
-    return told.stdout if told.returncode == 0 else ""
+    done = subprocess.run(command, capture_output=True, text=True, errors="replace")
+    if done.returncode != 0:
+        print(f"packages without PROOF: {done.stderr.strip()[-400:]}", file=sys.stderr)
+    return done.stdout if done.returncode == 0 else ""
 
 
 def copy(tree: Path, built: list[Path], stated: str) -> None:
@@ -108,10 +108,10 @@ def build(built: list[Path], folder: Path, stated: str, architecture: str) -> li
         tree = Path(name) / f"leversorrel-{version()}"
         tree.mkdir()
         copy(tree, built, stated)
-        told = subprocess.run(words, cwd=tree, text=True, errors="replace", umask=0o022,
+        done = subprocess.run(words, cwd=tree, text=True, errors="replace", umask=0o022,
                               env={**os.environ, "SOURCE_DATE_EPOCH": str(date())}, stdout=subprocess.PIPE, stderr=subprocess.STDOUT)
-        if told.returncode != 0:
-            sys.exit(f"{told.stdout}\ndpkg-buildpackage ended with status {told.returncode}")
+        if done.returncode != 0:
+            sys.exit(f"{done.stdout}\ndpkg-buildpackage ended with status {done.returncode}")
         folder.mkdir(parents=True, exist_ok=True)
         return [Path(shutil.copy2(it, folder)) for it in sorted(Path(name).glob("*.deb"))]
 

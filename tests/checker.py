@@ -20,7 +20,7 @@ import progress
 import usage
 from explanations import EXPLAINED, Explained
 from faulty_texts import ONE
-from outside import FEW_BYTES, FIRST, FIRST_JOURNAL, FIRST_TOTALS, ILLEGAL, LEGAL, LOST, STORED, Row, told
+from outside import FEW_BYTES, FIRST, FIRST_JOURNAL, FIRST_TOTALS, ILLEGAL, LEGAL, LOST, STORED, Row, fails_with
 from process import Call, Ended, Sink, Source
 from script import first_illegal, summary
 from tally import Tally
@@ -91,9 +91,9 @@ def explanations() -> Iterator[Row]:
         yield Row("explain", repr(row.text[-60:]), Call(EXPLAIN, row.text + b"end\n"), is_illegal(line, row.lines()))
         yield Row("explain", f"not asked for: {row.text[-60:]!r}", Call((), row.text + b"end\n"), is_illegal(line))
     row = EXPLAINED[0]
-    told = row.lines()
+    reported = row.lines()
     more = row.text + b"0 alloc 7\nnode 1 blocks 1\n0 alloc 7\nend\n"
-    yield Row("explain", "others illegal behind it", Call(EXPLAIN, more, Source.PIPE), is_illegal(3, told))
+    yield Row("explain", "others illegal behind it", Call(EXPLAIN, more, Source.PIPE), is_illegal(3, reported))
     yield Row("explain", "legal", Call(EXPLAIN, LEGAL), IS_LEGAL)
     yield Row("explain", "a fault", Call(EXPLAIN, b"fly\n"), fault(1, "bad-word"))
     yield Row("explain", "a fault behind an illegal event", Call(EXPLAIN, row.text + b"fly\n"), fault(4, "bad-word"))
@@ -160,10 +160,10 @@ def scripts() -> Iterator[Row]:
     yield Row("script", "two nodes", Call(SCRIPT, nodes), Ended(0, wanted))
     row = EXPLAINED[0]
     text = row.text + b"end\n"
-    told = b"thpcheck: illegal line 3\n"
+    reported = b"thpcheck: illegal line 3\n"
     front = checked_front(row.text)
-    yield Row("script", "illegal", Call(SCRIPT, text), Ended(1, front, told))
-    yield Row("script", "illegal, explained", Call(SCRIPT + EXPLAIN, text), Ended(1, front, told + row.lines()))
+    yield Row("script", "illegal", Call(SCRIPT, text), Ended(1, front, reported))
+    yield Row("script", "illegal, explained", Call(SCRIPT + EXPLAIN, text), Ended(1, front, reported + row.lines()))
     late = replace(fault(4, "bad-word"), output=front)
     yield Row("script", "a fault behind an illegal event", Call(SCRIPT, row.text + b"fly\n"), late)
     yield Row("script", "a fault", Call(SCRIPT, b"fly\n"), fault(1, "bad-word"))
@@ -257,13 +257,13 @@ def requests() -> Iterator[Row]:
         yield at_fault((flag, flag), f"the argument '{flag}' cannot be used multiple times")
         yield at_fault((f"{flag}=1",), f"unexpected value '1' for '{flag}' found; no more were expected", flag)
         yield at_fault((flag, "x"), "unexpected argument 'x' found")
-    yield Row("words", "a word that isn't UTF-8", Call((b"\xff",), b"fly\n", untouched=True), told(usage.NOT_TEXT))
+    yield Row("words", "a word that isn't UTF-8", Call((b"\xff",), b"fly\n", untouched=True), fails_with(usage.NOT_TEXT))
 
 
 def at_fault(words: tuple[str, ...], fault: str, named: str = "[OPTIONS]") -> Row:
     """Words that the command does not accept, and the messages of `clap` about them."""
     text = f"error: {fault}\n\nUsage: thpcheck {named}{usage.TRY}".encode()
-    return Row("words", " ".join(words) or repr(""), Call(words, b"fly\n", untouched=True), told(text))
+    return Row("words", " ".join(words) or repr(""), Call(words, b"fly\n", untouched=True), fails_with(text))
 
 
 def failures() -> Iterator[Row]:

@@ -117,8 +117,8 @@ class Root:
             words = ["debootstrap", "--variant=minbase", f"--include={included}", suite, str(self.path), asked.mirror]
             done = called(words)
         if done.returncode != 0:
-            told = (done.stdout + done.stderr).strip().splitlines()
-            raise Missing(f"no Debian root: {told[-1] if told else f'status {done.returncode}'}")
+            reported = (done.stdout + done.stderr).strip().splitlines()
+            raise Missing(f"no Debian root: {reported[-1] if reported else f'status {done.returncode}'}")
         self.path.chmod(0o755)
 
     def run(self, script: str, user: str = NOBODY, lent: str | None = None) -> subprocess.CompletedProcess[str]:

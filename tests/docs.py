@@ -17,6 +17,7 @@ from pathlib import Path
 from typing import Iterable, Iterator
 
 import explanations
+import naming
 import outside
 import rows
 import wording
@@ -117,6 +118,16 @@ def words_are_plain() -> str | None:
     """The words that plain English replaces are rare."""
     found = len(wording.places(wording.files()))
     return None if found <= wording.MOST else f"{found} places, and may have {wording.MOST}: python3 tests/wording.py --list"
+
+
+def definitions_have_own_names() -> str | None:
+    """No name of a definition has two meanings."""
+    return listed(naming.shared_names(), "shared, or wrongly listed as shared:")
+
+
+def reports_are_named() -> str | None:
+    """No source has the word that `report` replaces."""
+    return listed(naming.replaced_words(), "use report instead in")
 
 
 def layers_are_current() -> str | None:
@@ -416,6 +427,8 @@ def main() -> None:
     tally.run("docs/MAP.md is short", map_is_short)
     tally.run("linux/ is small", kernel_tools_are_small)
     tally.run("words are plain", words_are_plain)
+    tally.run("definitions have names of their own", definitions_have_own_names)
+    tally.run("reports are named by one word", reports_are_named)
     tally.run("docs/pictures/layers.py --check", layers_are_current)
     tally.run("README.md shows the stored output of examples", dialogues_are_true)
     tally.run("docs/PROVED.md covers each crate", crates_are_covered)

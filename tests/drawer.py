@@ -24,7 +24,7 @@ import faulty_texts
 import usage
 from checker import BEHIND, LONG, ROUNDS, SEVERAL
 from model import Node
-from outside import FEW_BYTES, FIRST, FIRST_JOURNAL, ILLEGAL, LEGAL, LOST, ROOT, STORED, Row, told
+from outside import FEW_BYTES, FIRST, FIRST_JOURNAL, ILLEGAL, LEGAL, LOST, ROOT, STORED, Row, fails_with
 from process import Call, Ended, Sink, Source, run
 from progress import ASKED, Shown, lines
 from tables import Drawn, Waits, drawn_nodes, numbers, table, table_of
@@ -153,8 +153,8 @@ class Picture:
     def wrong(self, program: Path) -> Optional[str]:
         """What is wrong with the picture that the program draws, or with its end; or None."""
         ended = run(program, Call((), self.text, self.source))
-        told = Ended(ended.status, b"", ended.errors).differs_from(Ended(table(self.text).status))
-        return told or self.wrong_with(ended.output)
+        reported = Ended(ended.status, b"", ended.errors).differs_from(Ended(table(self.text).status))
+        return reported or self.wrong_with(ended.output)
 
     def wrong_with(self, output: bytes) -> Optional[str]:
         """What is wrong with this picture, or None."""
@@ -275,9 +275,9 @@ class Alone:
         for number, (node, top) in enumerate(zip(nodes, tops)):
             ended = run(program, Call(("--node", str(number)), self.text))
             start = '<g transform="translate(0 660)">\n<text class="ink h" '
-            told = Ended(ended.status, b"", ended.errors).differs_from(Ended(of_node(self.text, number).status))
-            if told:
-                return told
+            reported = Ended(ended.status, b"", ended.errors).differs_from(Ended(of_node(self.text, number).status))
+            if reported:
+                return reported
             if HEIGHT.sub(r"\1", ended.output.decode()) != HEIGHT.sub(r"\1", f"{head}{start}{node}</svg>\n"):
                 return f"node {number}, at {top} in the whole picture, differs"
         return None if len(nodes) == len(drawn_nodes(self.text.decode().split("\n")[:-1])) else f"{len(nodes)} nodes are drawn"
@@ -326,7 +326,7 @@ def requests() -> Iterator[Row]:
         yield at_fault((flag, flag), f"the argument '{flag}' cannot be used multiple times")
         yield at_fault((f"{flag}=1",), f"unexpected value '1' for '{flag}' found; no more were expected", flag)
         yield at_fault((flag, "x"), "unexpected argument 'x' found")
-    yield Row("words", "a word that isn't UTF-8", Call((b"\xff",), b"fly\n", untouched=True), told(usage.NOT_TEXT))
+    yield Row("words", "a word that isn't UTF-8", Call((b"\xff",), b"fly\n", untouched=True), fails_with(usage.NOT_TEXT))
 
 
 def numbers_at_fault() -> Iterator[Row]:
@@ -346,7 +346,7 @@ def at_fault(words: tuple[str, ...], what: str, named: str = "[OPTIONS]") -> Row
     """Words that the command does not accept, and the messages of `clap` about them."""
     usage_line = f"\n\nUsage: thpdraw {named}" if named else ""
     text = f"error: {what}{usage_line}{usage.TRY}".encode()
-    return Row("words", " ".join(words) or repr(""), Call(words, b"fly\n", untouched=True), told(text))
+    return Row("words", " ".join(words) or repr(""), Call(words, b"fly\n", untouched=True), fails_with(text))
 
 
 def failures() -> Iterator[Row]:

@@ -79,8 +79,8 @@ class Emulated:
             return wrong
         shown = {}
         for words in (["-D", "--defined-only"], ["-D", "--undefined-only"]):
-            told = subprocess.run([ARM64.tool("nm"), *words, self.folder / "libthp.so"], capture_output=True, text=True, check=True).stdout
-            shown[words[1]] = {line.split()[-1].partition("@")[0] for line in told.splitlines() if " w " not in line}
+            text = subprocess.run([ARM64.tool("nm"), *words, self.folder / "libthp.so"], capture_output=True, text=True, check=True).stdout
+            shown[words[1]] = {line.split()[-1].partition("@")[0] for line in text.splitlines() if " w " not in line}
         names = (shown["--defined-only"] - {*symbol_versions()}) ^ {*header()}
         return ", ".join(sorted(names | (shown["--undefined-only"] - ASKED))) or ", ".join(weaknesses(self.folder / "libthp.so")) or None
 

@@ -43,8 +43,8 @@ def by_program(program: str, case: Path) -> str | None:
     words = beside(case, "args", "").split()
     with case.open("rb") as given:
         done = subprocess.run([program, *words], stdin=given, capture_output=True, timeout=60, check=False)
-    told = {"stdout": done.stdout.decode(), "stderr": done.stderr.decode(), "status": f"{done.returncode}\n"}
-    for stream, text in told.items():
+    reported = {"stdout": done.stdout.decode(), "stderr": done.stderr.decode(), "status": f"{done.returncode}\n"}
+    for stream, text in reported.items():
         wanted = beside(case, stream, "0\n" if stream == "status" else "")
         if text != wanted:
             return f"{stream} is {text!r} in place of {wanted!r}"
@@ -66,10 +66,10 @@ def by_try() -> dict[str, str | None]:
             ["rt", "try", "--cases", folder], cwd=ROOT / "crates/thpsplit", capture_output=True, text=True, check=False
         )
     lines = (done.stdout + done.stderr).splitlines()
-    told = {match[1]: (match[2], line) for line in lines if (match := ENDED.match(line))}
+    reported = {match[1]: (match[2], line) for line in lines if (match := ENDED.match(line))}
     wrong: dict[str, str | None] = {}
     for case in cases():
-        status, line = told.get(case.name, ("none", ""))
+        status, line = reported.get(case.name, ("none", ""))
         wanted = beside(case, "status", "0\n").strip()
         if status != wanted:
             wrong[case.name] = f"status is {status} in place of {wanted}"

@@ -48,8 +48,8 @@ class Explained(NamedTuple):
         """The text on standard error."""
         line, event = self.text.count(b"\n"), self.text.splitlines()[-1]
         first, *others = self.choices or (b"nothing",)
-        told = [b"line %d: %s" % (line, event), b"expected: " + first, *(b"or: " + other for other in others)]
-        return b"".join(it + b"\n" for it in (*told, b"why: " + self.why))
+        reported = [b"line %d: %s" % (line, event), b"expected: " + first, *(b"or: " + other for other in others)]
+        return b"".join(it + b"\n" for it in (*reported, b"why: " + self.why))
 
 
 EXPLAINED = [

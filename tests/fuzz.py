@@ -91,9 +91,9 @@ def whole_runs(case: Case, script: Script) -> Iterator[Probe]:
 def cover_run(case: Case, script: Script, journal: list[str]) -> None:
     """Records the commands, answers and events of a run, its nodes and its workers."""
     lines = [line for _, commands in script.sections for line in commands]
-    for line, told in zip(lines, script.run.answers):
+    for line, reported in zip(lines, script.run.answers):
         case.cover("commands", line.split(" ")[0])
-        answer = told.split(" ")[2:]
+        answer = reported.split(" ")[2:]
         if answer[0] == "refused":
             case.cover("refusals", answer[1])
         else:
@@ -115,7 +115,7 @@ def checked(case: Case, name: str, text: bytes) -> Probe:
     fault = journal_fault(text)
     if fault is not None:
         case.cover("faults of journals", fault.word)
-        return Probe(name, ("--check",), text, Ended(2, b"", fault.told()))
+        return Probe(name, ("--check",), text, Ended(2, b"", fault.message()))
     line = first_illegal(text.decode().split("\n")[:-1])
     if line is None:
         case.cover("verdicts", "legal")
@@ -149,7 +149,7 @@ def spoilt_scripts(case: Case) -> Iterator[Probe]:
         words = tuple(script.options(case.chance))
         if fault is not None:
             case.cover("faults of scripts", fault.word)
-            yield Probe(f"spoilt-{place}", words, text, Ended(2, b"", fault.told()))
+            yield Probe(f"spoilt-{place}", words, text, Ended(2, b"", fault.message()))
             continue
         case.cover("faults of scripts", "none")
         if sum(1 for caller, lines in sections_of(text.decode()) if caller and lines) > 1:
@@ -255,15 +255,15 @@ TO_COVER: dict[str, tuple[str, ...]] = {
 
 def help_is_whole(program: Path) -> list[str]:
     """What the program's help lacks, or contains beyond this list."""
-    told = subprocess.run([program, "--help"], capture_output=True, check=False, timeout=SECONDS).stdout.decode()
-    options = re.findall(r"^ +(?:-\w, )?--(\w+)", told, re.M)
-    after = told.partition("\nCommands:\n")[2]
+    reported = subprocess.run([program, "--help"], capture_output=True, check=False, timeout=SECONDS).stdout.decode()
+    options = re.findall(r"^ +(?:-\w, )?--(\w+)", reported, re.M)
+    after = reported.partition("\nCommands:\n")[2]
     commands = re.findall(r"^  ([a-z]+) ", after.partition("\n\n")[0], re.M)
     pairs = [("option", sorted(options), sorted(usage.OPTIONS)), ("command", sorted(commands), sorted(COMMANDS))]
-    wrong = [f"help tells {what}s {found}, and not {wanted}" for what, found, wanted in pairs if found != wanted]
+    wrong = [f"help reports {what}s {found}, and not {wanted}" for what, found, wanted in pairs if found != wanted]
     for word in (*REFUSALS, *FAULT_WORDS):
         if not re.search(rf"(?<![\w-]){word}(?![\w-])", after):
-            wrong.append(f"help doesn't tell '{word}'")
+            wrong.append(f"help doesn't report '{word}'")
     return wrong
 
 
@@ -314,14 +314,14 @@ def keep(folder: Path, probe: Probe, ended: Ended) -> None:
     folder.mkdir(parents=True, exist_ok=True)
     (folder / "options").write_bytes(b"".join(os.fsencode(word) + b"\n" for word in probe.words))
     (folder / "input").write_bytes(probe.text)
-    for name, it in (("wanted", probe.wanted), ("told", ended)):
+    for name, it in (("wanted", probe.wanted), ("reported", ended)):
         (folder / f"{name}.status").write_text(f"{it.status}\n")
         (folder / f"{name}.stdout").write_bytes(it.output)
         (folder / f"{name}.stderr").write_bytes(it.errors)
     print(f"differs: {folder}: {ended.differs_from(probe.wanted)}", file=sys.stderr, flush=True)
 
 
-def tell_covered(covered: Counter[tuple[str, str]]) -> list[str]:
+def report_covered(covered: Counter[tuple[str, str]]) -> list[str]:
     """Prints what was covered, by kind, and returns what was not."""
     never: list[str] = []
     for what, names in TO_COVER.items():
@@ -378,7 +378,7 @@ def main() -> None:
         program.symlink_to(asked.program.resolve())
         wrong = help_is_whole(program)
         whole = try_all(asked, program)
-    never = tell_covered(whole.covered)
+    never = report_covered(whole.covered)
     for line in wrong:
         print(line)
     if never:

@@ -64,7 +64,7 @@ REFUSED = "memory::node_growths::put_back_without_memory"
 
 COUNT = re.compile(r"(\d+) passed, (\d+) failed$")
 
-TELLS_FAILURE = re.compile(r": failed: |^rt: FAILED|^(?:rt: )?must-fail .*: (?:NOT REFUSED|BAD EDIT)|^(FAIL|ERROR): ")
+REPORTS_FAILURE = re.compile(r": failed: |^rt: FAILED|^(?:rt: )?must-fail .*: (?:NOT REFUSED|BAD EDIT)|^(FAIL|ERROR): ")
 """Lines that name a failure, which are repeated at the end: often only the end of a long output is kept."""
 
 
@@ -87,7 +87,7 @@ def run(command: list[str], failures: list[str], see: Callable[[str], None]) -> 
             continue
         print(line, end="", flush=True)
         see(line)
-        if TELLS_FAILURE.search(line):
+        if REPORTS_FAILURE.search(line):
             failures.append(line[:300].rstrip())
     return passed, failed, child.wait()
 

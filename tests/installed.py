@@ -155,16 +155,16 @@ def page_is_sound(page: str) -> str | None:
     return done.stderr.strip() or None
 
 
-def options_are_told(path: str, options: str = "crates/thp_cli/src/options.rt") -> str | None:
+def options_are_reported(path: str, options: str = "crates/thp_cli/src/options.rt") -> str | None:
     """A file contains each option of a command line, and no other; for a manual page, its section of options. In fish's form an
     option is `-l NAME`."""
     source = (ROOT / options).read_text()
     wanted = set(re.findall(r'(?:\.long\(|(?:flag|valued|number)\(\s*alloc,\s*)"([a-z]+)"', source)) | {"help", "version"}
     text = (ROOT / path).read_text().replace("\\-", "-").split(".SH OPTIONS")[-1].split(".SH ")[0]
-    told = set(re.findall(r"--([a-z]+)", text)) | set(re.findall(r" -l ([a-z]+)", text))
-    if told == wanted:
+    reported = set(re.findall(r"--([a-z]+)", text)) | set(re.findall(r" -l ([a-z]+)", text))
+    if reported == wanted:
         return None
-    return f"lacks {sorted(wanted - told)}, and has {sorted(told - wanted)}"
+    return f"lacks {sorted(wanted - reported)}, and has {sorted(reported - wanted)}"
 
 
 OPTION = re.compile(r"--([a-z][a-z-]*)")
@@ -238,11 +238,11 @@ def main() -> None:
         tally.run(f"no warning in {page}", partial(page_is_sound, page))
     tally.run(f"tables of docs/FORMATS.md in {PAGES[1]}", has_tables_of_formats)
     for path in [PAGES[0], *COMPLETIONS.values()]:
-        tally.run(f"options in {path}", partial(options_are_told, path))
+        tally.run(f"options in {path}", partial(options_are_reported, path))
     for page, files, name in (PAGES[2], CHECKER_COMPLETIONS, "program"), (PAGES[3], DRAWER_COMPLETIONS, "draw_program"):
         for path in [page, *files.values()]:
             own = f"crates/thp_journal_tools/src/{name}.rt"
-            tally.run(f"options in {path}", partial(options_are_told, path, own))
+            tally.run(f"options in {path}", partial(options_are_reported, path, own))
     completions = [COMPLETIONS, CHECKER_COMPLETIONS, DRAWER_COMPLETIONS]
     for tool in TOOLS:
         files = {"bash": f"completions/{tool}.bash", "zsh": f"completions/_{tool}", "fish": f"completions/{tool}.fish"}

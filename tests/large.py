@@ -374,13 +374,13 @@ def worker_keeps_commands(program: Path) -> Optional[str]:
     """Two million pins and unpins of a worker use the memory of its commands only."""
     made, lines, report = pins_and_unpins()
     with tempfile.TemporaryDirectory() as folder:
-        given, told = Path(folder) / "script", Path(folder) / "most"
+        given, reported = Path(folder) / "script", Path(folder) / "most"
         given.write_bytes(f"setup\n{made}worker 1\n".encode() + lines)
-        called = [sys.executable, "-IS", "-c", MEASURED, str(told), str(program), *words("--nodes 8")]
+        called = [sys.executable, "-IS", "-c", MEASURED, str(reported), str(program), *words("--nodes 8")]
         with given.open("rb") as script:
             done = subprocess.run(called, stdin=script, capture_output=True, timeout=SECONDS, check=False)
         wrong = Ended(done.returncode, done.stdout, done.stderr).differs_from(Ended(0, report))
-        most = int(told.read_text()) * 1024
+        most = int(reported.read_text()) * 1024
     return wrong or (None if most <= WORKER_BYTES else f"{most} bytes were held, more than {WORKER_BYTES}")
 
 
@@ -408,29 +408,29 @@ def crowd(program: Path) -> Optional[str]:
 
 def crowd_answers(program: Path, options: tuple[str, ...], script: bytes, pages: int) -> Optional[str]:
     """Each worker's answers are complete and in order; on each node each page was allocated once, and split once."""
-    told = run(program, Call((*options, "--report", "answers"), script))
-    answers = [line.split(" ", 2) for line in told.output.decode().splitlines()]
+    reported = run(program, Call((*options, "--report", "answers"), script))
+    answers = [line.split(" ", 2) for line in reported.output.decode().splitlines()]
     commands = [line.split(" ") for line in script.decode().splitlines() if not line.startswith("worker")]
     each = len(commands) // MOST_WORKERS
     places = [[str(worker), str(place)] for worker in range(1, MOST_WORKERS + 1) for place in range(1, each + 1)]
-    if (told.status, told.errors) != (0, b"") or [answer[:2] for answer in answers] != places:
-        return f"answers: status {told.status}, {told.errors!r}, {len(answers)} answers"
+    if (reported.status, reported.errors) != (0, b"") or [answer[:2] for answer in answers] != places:
+        return f"answers: status {reported.status}, {reported.errors!r}, {len(answers)} answers"
     for node in range(NODES):
         own = [answer[2] for answer, command in zip(answers, commands) if command[1] == str(node)]
         for word in ("page", "split"):
             if sorted(int(answer[len(word) :]) for answer in own if answer.startswith(word)) != list(range(pages)):
-                return f"answers: on node {node} not each page is told once by '{word}'"
+                return f"answers: on node {node} not each page is reported once by '{word}'"
     return None
 
 
 def crowd_journal(program: Path, options: tuple[str, ...], script: bytes, pages: int) -> Optional[str]:
     """The journal has the events of all workers, and is legal."""
-    told = run(program, Call((*options, "--report", "journal"), script))
-    callers = {line.split(b" ", 1)[0] for line in told.output.splitlines()} - {b"thp-journal", b"node", b"end"}
-    count = told.output.count(b"\n") - NODES - 2
-    if told.status or len(callers) != MOST_WORKERS or count != 3 * pages * NODES:
-        return f"journal: status {told.status}, {len(callers)} callers, {count} events"
-    return run(program, Call(CHECK, told.output)).differs_from(LEGAL)
+    reported = run(program, Call((*options, "--report", "journal"), script))
+    callers = {line.split(b" ", 1)[0] for line in reported.output.splitlines()} - {b"thp-journal", b"node", b"end"}
+    count = reported.output.count(b"\n") - NODES - 2
+    if reported.status or len(callers) != MOST_WORKERS or count != 3 * pages * NODES:
+        return f"journal: status {reported.status}, {len(callers)} callers, {count} events"
+    return run(program, Call(CHECK, reported.output)).differs_from(LEGAL)
 
 
 def wrong_of(program: Path, case: Case) -> str | None:

@@ -290,9 +290,9 @@ def elf_differs(library: Path) -> str | None:
     name, symbols = soname(), (symbol_versions() or ["THP_"])[-1]
     if shutil.which("readelf") is None:
         raise Missing("no readelf here")
-    told = subprocess.run(["readelf", "-dVW", library], capture_output=True, text=True, check=False).stdout
+    reported = subprocess.run(["readelf", "-dVW", library], capture_output=True, text=True, check=False).stdout
     wanted = {f"soname {name}": rf"\(SONAME\).*\[{re.escape(name)}\]", f"version {symbols}": rf"Name: {re.escape(symbols)}$"}
-    return ", ".join(f"not {it}" for it in wanted if not re.search(wanted[it], told, re.M)) or is_unprotected(library)
+    return ", ".join(f"not {it}" for it in wanted if not re.search(wanted[it], reported, re.M)) or is_unprotected(library)
 
 
 def is_unprotected(built: Path) -> str | None:
@@ -320,8 +320,8 @@ class Built:
         """The shared library exports the header's functions, and the static library has no other global name."""
         for library, words in (("libthp.so", ["-D"]), ("libthp.a", ["-g"])):
             command = ["nm", *words, "--defined-only", str(self.folder / library)]
-            told = subprocess.run(command, capture_output=True, text=True, check=False).stdout
-            shown = {line.split()[-1].partition("@")[0] for line in told.splitlines() if len(line.split()) == 3} - {*symbol_versions()}
+            reported = subprocess.run(command, capture_output=True, text=True, check=False).stdout
+            shown = {line.split()[-1].partition("@")[0] for line in reported.splitlines() if len(line.split()) == 3} - {*symbol_versions()}
             if shown != {*header()}:
                 return f"{library}: {sorted(shown ^ {*header()})[:9]}"
         return None
@@ -336,8 +336,8 @@ class Built:
     def wanted_names(self) -> str | None:
         """The shared library needs the C library for memory and moving it only: none of that waits or is a cancellation point."""
         command = ["nm", "-D", "--undefined-only", str(self.folder / "libthp.so")]
-        told = subprocess.run(command, capture_output=True, text=True, check=False).stdout
-        asked = {line.split()[-1].partition("@")[0] for line in told.splitlines() if line.split()[0] == "U"}
+        reported = subprocess.run(command, capture_output=True, text=True, check=False).stdout
+        asked = {line.split()[-1].partition("@")[0] for line in reported.splitlines() if line.split()[0] == "U"}
         return None if {"malloc", "realloc", "free"} <= asked <= ASKED else f"{sorted(asked ^ ASKED)}"
 
     def test(self, source: str, compiler: str, words: list[str], under: list[str]) -> str | None:
@@ -514,10 +514,10 @@ def differs_on_batches(replay: Path, chance: Random) -> str | None:
         run.batches = open_by[caller]
         run.end(caller)
     by_node = [line for at, answer in enumerate([*run.answers, ""]) for line in (*seen.get(at, []), answer)][:-1]
-    told = f"{shape[1]},{'off' if shape[2] is None else shape[2]}"
+    reported = f"{shape[1]},{'off' if shape[2] is None else shape[2]}"
     for way, answers in (("nodes", by_node), ("passes", run.answers)):
         wanted = joined([*answers, *run.journal()])
-        ended = subprocess.run([replay, way, str(shape[0]), told], input=joined(lines), capture_output=True, check=False)
+        ended = subprocess.run([replay, way, str(shape[0]), reported], input=joined(lines), capture_output=True, check=False)
         if ended.returncode != 0 or ended.stdout != wanted:
             pairs = zip(ended.stdout.splitlines() + [b"(end)"], wanted.splitlines() + [b"(end)"])
             return f"by {way}: {next((pair for pair in pairs if pair[0] != pair[1]), ended.stderr)!r}"

@@ -28,8 +28,8 @@ def checked(words: list[str]) -> str | None:
         raise Missing(f"no {words[0]} here (Debian's package {words[0]})")
     done = subprocess.run(words, cwd=ROOT, capture_output=True, text=True, errors="replace", timeout=SECONDS, check=False,
                           env={**os.environ, "MYPYPATH": "tests:release:debian"})
-    told = [line for line in (done.stdout + done.stderr).split("\n") if ": note: " not in line]
-    return None if done.returncode == 0 else "; ".join(line[:200] for line in told[:10])
+    reported = [line for line in (done.stdout + done.stderr).split("\n") if ": note: " not in line]
+    return None if done.returncode == 0 else "; ".join(line[:200] for line in reported[:10])
 
 
 def main() -> None:

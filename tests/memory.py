@@ -29,7 +29,7 @@ from tally import Tally
 
 HERE = pathlib.Path(__file__).parent
 COMPILER = os.environ.get("CC", "cc")
-TOLD = "thpsplit: out of memory\n"
+REPORTED = "thpsplit: out of memory\n"
 
 Ran = subprocess.CompletedProcess[str]
 Case = tuple[str, list[str], str, str]
@@ -57,13 +57,13 @@ def main() -> None:
     with tempfile.TemporaryDirectory() as folder:
         refuser = Refuser(pathlib.Path(folder))
         for case in cases():
-            tally.run(case[0], lambda: told(try_case(refuser, program, *case)))
+            tally.run(case[0], lambda: failure(try_case(refuser, program, *case)))
         for named in tests:
-            tally.run(named, lambda: told(try_tests(refuser, named)))
+            tally.run(named, lambda: failure(try_tests(refuser, named)))
     tally.end()
 
 
-def told(wrong: int) -> str | None:
+def failure(wrong: int) -> str | None:
     """The entry in a tally for this many runs that ended wrong."""
     return f"{wrong} runs ended wrong" if wrong else None
 
@@ -126,15 +126,15 @@ def try_case(refuser: Refuser, program: str, name: str, options: list[str], text
     """Runs the program with each allocation and each thread made to fail; returns the number of these runs that ended wrong."""
 
     def kind(ran: Ran) -> str:
-        told = (ran.returncode, ran.stdout, ran.stderr)
-        return {(3, "", TOLD): "told", (0, wanted, ""): "whole"}.get(told, "wrong")
+        reported = (ran.returncode, ran.stdout, ran.stderr)
+        return {(3, "", REPORTED): "reported", (0, wanted, ""): "whole"}.get(reported, "wrong")
 
     wrong, parts = 0, []
     growths, starts = refuser.each([program, *options], text)
     for what, whole, runs in (("growths", "met by less", growths), ("threads", "done without", starts)):
         counts = Counter(map(kind, runs))
-        told = f"{counts['told']} told, {counts['whole']} {whole}, {counts['wrong']} wrong"
-        parts.append(f"{len(runs)} {what} refused: {told}")
+        reported = f"{counts['reported']} reported, {counts['whole']} {whole}, {counts['wrong']} wrong"
+        parts.append(f"{len(runs)} {what} refused: {reported}")
         wrong += counts["wrong"]
     print(f"{name}: {'; '.join(parts)}", flush=True)
     return wrong

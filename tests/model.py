@@ -301,8 +301,8 @@ class Node:
         while self.flight(caller):
             counts[self.returned(caller)] += 1
         used = f" used {counts['used']}" if self.underused is not None else ""
-        told = " ".join(f"{word} {counts[word]}" for word in ("split", "pinned", "back", "dropped"))
-        return f"taken {len(batch)} {told}{used}"
+        reported = " ".join(f"{word} {counts[word]}" for word in ("split", "pinned", "back", "dropped"))
+        return f"taken {len(batch)} {reported}{used}"
 
     # Reports.
 

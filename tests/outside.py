@@ -68,7 +68,7 @@ class Row:
             return "bytes of the input were read"
 
 
-def told(errors: bytes) -> Ended:
+def fails_with(errors: bytes) -> Ended:
     """An error of usage with this text."""
     return Ended(2, b"", errors)
 
@@ -107,7 +107,7 @@ def requests() -> Iterator[Row]:
         for source in (Source.FOLDER, Source.CLOSED):
             yield Row(group, f"{line}, input {source.name.lower()}", Call(words(line), source=source), Ended(0, output))
         yield Row(group, f"{line}, /dev/full", Call(words(line), output=Sink.FULL), WRITE_FAILED)
-    yield Row("usage", "--nodes 9 --help", Call(words("--nodes 9 --help")), told(usage.out_of_range("nodes", 9)))
+    yield Row("usage", "--nodes 9 --help", Call(words("--nodes 9 --help")), fails_with(usage.out_of_range("nodes", 9)))
 
 
 def numbers() -> Iterator[Row]:
@@ -130,7 +130,7 @@ def numbers() -> Iterator[Row]:
 
 def usage_row(line: str, errors: bytes, given: tuple[Word, ...] = ()) -> Row:
     """A command line with an error, so that no input is read. Its words are the line's, unless they are given."""
-    return Row("usage", line, Call(given or words(line), b"fly\n", untouched=True), told(errors))
+    return Row("usage", line, Call(given or words(line), b"fly\n", untouched=True), fails_with(errors))
 
 
 def options_at_fault() -> Iterator[Row]:
@@ -165,7 +165,7 @@ def words_at_fault() -> Iterator[Row]:
     not_text: dict[str, tuple[Word, ...]] = {"alone": (b"\xff",), "a value": ("--orders", b"9\xff"), "behind --help": ("--help", b"--\xc3")}
     for name, words_given in not_text.items():
         call = Call(words_given, b"fly\n", untouched=True)
-        yield Row("not text", f"a word that isn't UTF-8, {name}", call, told(usage.NOT_TEXT))
+        yield Row("not text", f"a word that isn't UTF-8, {name}", call, fails_with(usage.NOT_TEXT))
 
 
 def lists() -> Iterator[Row]:

@@ -133,8 +133,8 @@ def fields_differ(packages: list[Path]) -> Optional[str]:
     wrong, names = [], set()
     for path in packages:
         words = ["dpkg-deb", "-f", str(path), "Package", "Version", "Depends"]
-        told = subprocess.run(words, capture_output=True, text=True, check=True).stdout
-        fields = dict(line.split(": ", 1) for line in told.splitlines())
+        reported = subprocess.run(words, capture_output=True, text=True, check=True).stdout
+        fields = dict(line.split(": ", 1) for line in reported.splitlines())
         name, needs = fields["Package"], fields.get("Depends", "").split(", ")
         names.add(name)
         wanted = version() if name.removesuffix(DEBUG) in OF_LIBRARY else found[1]
@@ -280,9 +280,9 @@ def works(root: Path) -> Optional[str]:
     totals = run(program, Call((), FIRST.read_bytes()))
     if totals.status != 0 or b"frames_given 256\n" not in totals.output:
         return f"the first script: {totals}"
-    told = run(program, Call(("--check",), LEGAL.read_bytes())).differs_from(Ended(0, b"legal\n"))
-    told = told or run(root / "usr/bin/thpcheck", Call((), LEGAL.read_bytes())).differs_from(Ended(0, b"legal\n"))
-    return told or run(root / "usr/bin/thpdraw", Call(("--table",), LEGAL.read_bytes())).differs_from(table(LEGAL.read_bytes()))
+    reported = run(program, Call(("--check",), LEGAL.read_bytes())).differs_from(Ended(0, b"legal\n"))
+    reported = reported or run(root / "usr/bin/thpcheck", Call((), LEGAL.read_bytes())).differs_from(Ended(0, b"legal\n"))
+    return reported or run(root / "usr/bin/thpdraw", Call(("--table",), LEGAL.read_bytes())).differs_from(table(LEGAL.read_bytes()))
 
 
 def tools_work(root: Path, version: str) -> Optional[str]:

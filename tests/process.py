@@ -101,18 +101,18 @@ def run(program: Path, call: Call) -> Ended:
                 stderr=outputs[1],
                 preexec_fn=before(call),
             )
-            told = child.communicate(call.given if call.source == Source.PIPE else None, timeout=SECONDS)
+            reported = child.communicate(call.given if call.source == Source.PIPE else None, timeout=SECONDS)
             if call.untouched and os.lseek(given, 0, os.SEEK_CUR) != 0:
                 raise ReadTooEarly
         except subprocess.TimeoutExpired:
             child.kill()
-            told = child.communicate()
-            return Ended(-9, *(text or b"" for text in told))
+            reported = child.communicate()
+            return Ended(-9, *(text or b"" for text in reported))
         finally:
             for it in (given, *outputs):
                 if it >= 0:
                     os.close(it)
-    return Ended(child.returncode, *(text or b"" for text in told))
+    return Ended(child.returncode, *(text or b"" for text in reported))
 
 
 def sink(kind: Sink) -> int:

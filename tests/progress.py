@@ -37,8 +37,8 @@ def line(text: bytes, program: bytes = b"thpcheck") -> bytes:
     """The pattern of the line that a program shows after this prefix of a journal."""
     tenths = len(text) * 10 // 2**20
     events = sum(it[:1].isdigit() for it in text.split(b"\n"))
-    told = b"%s: %d.%d MiB, %d events, " % (program, *divmod(tenths, 10), events)
-    return re.escape(REMOVAL + told) + rb"\d+\.\d MiB/s"
+    reported = b"%s: %d.%d MiB, %d events, " % (program, *divmod(tenths, 10), events)
+    return re.escape(REMOVAL + reported) + rb"\d+\.\d MiB/s"
 
 
 def lines(*fronts: bytes, behind: bytes = b"", program: bytes = b"thpcheck") -> bytes:
@@ -146,24 +146,24 @@ def wait_for_none(pipe: int) -> None:
 
 def all_of(reader: int) -> bytes:
     """Everything written to a pipe or a terminal whose writers have ended."""
-    told = b""
+    reported = b""
     while True:
         try:
             part = os.read(reader, PART)
         except OSError:
-            return told
+            return reported
         if not part:
-            return told
-        told += part
+            return reported
+        reported += part
 
 
-def rows(legal: bytes, long: bytes, illegal: bytes, told: bytes) -> Iterator[Shown | Slow]:
+def rows(legal: bytes, long: bytes, illegal: bytes, reported: bytes) -> Iterator[Shown | Slow]:
     """Calls on a legal journal, on a long one, and on one whose illegal event, on line 7, has this explanation."""
     for source in (Source.FILE, Source.PIPE):
         yield Shown(f"a line, {source.name.lower()}", Call(ASKED, legal, source), 0, b"legal\n", lines(legal))
     yield Shown("more than one part", Call(ASKED, long), 0, b"legal\n", line(long[:PART]) + rb".*" + re.escape(REMOVAL))
     explained = Call((*ASKED, "--explain"), illegal)
-    yield Shown("an explanation behind it", explained, 1, b"illegal line 7\n", lines(illegal, behind=told))
+    yield Shown("an explanation behind it", explained, 1, b"illegal line 7\n", lines(illegal, behind=reported))
     yield Shown("a fault behind it", Call(ASKED, b"fly\n"), 2, b"", lines(b"fly\n", behind=b"thpcheck: line 1: bad-word\n"))
     failed = b"thpcheck: read failed\n"
     yield Shown("no input", Call(ASKED, source=Source.CLOSED), 3, b"", lines(behind=failed))

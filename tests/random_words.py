@@ -30,25 +30,25 @@ def front(chance: Random, but: str = "") -> tuple[list[str], list[Word]]:
     return used, words
 
 
-Told = Callable[[list[str]], bytes]
+Reported = Callable[[list[str]], bytes]
 """The message about an error, given the names of the options before it."""
 
-Faulty = tuple[str, list[Word], Told]
+Faulty = tuple[str, list[Word], Reported]
 """The option with the error, if there is one; words that have the error; and the message."""
 
 
 def faulty_words(chance: Random) -> tuple[str, list[Word], Ended]:
     """A kind of error, words that have it first, and the message."""
     kind = chance.choice(tuple(FAULTS))
-    name, words, told = FAULTS[kind](chance)
-    # what is told of an attached value depends on how the options before it are written
+    name, words, reported = FAULTS[kind](chance)
+    # what is reported of an attached value depends on how the options before it are written
     used, before = ([], []) if kind == "attached" else front(chance, name)
-    return kind, [*before, *words], Ended(2, b"", told(used))
+    return kind, [*before, *words], Ended(2, b"", reported(used))
 
 
-def always(told: bytes) -> Told:
+def always(reported: bytes) -> Reported:
     """A message that does not depend on the options before."""
-    return lambda used: told
+    return lambda used: reported
 
 
 def out_of_range(chance: Random) -> Faulty:

@@ -189,8 +189,8 @@ def illegal(chance: Random, checker: Path, program: Path) -> Optional[str]:
     if script != checked(checker, ["--script"], joined([*journal[:line - 1], "end"]))[1]:
         return "not the script of the events before it"
     explained = checked(checker, ["--script", "--explain"], joined(journal))[2]
-    told = checked(checker, ["--explain"], joined(journal))[2]
-    return None if told in explained else "not explained"
+    reported = checked(checker, ["--explain"], joined(journal))[2]
+    return None if reported in explained else "not explained"
 
 
 KINDS: dict[str, Callable[[Random, Path, Path], Optional[str]]] = {

@@ -41,17 +41,17 @@ class Row:
 
     def wrong(self, program: Path) -> Optional[str]:
         """How a report differs from the expected one, or None."""
-        told = self.report(program, "answers").differs_from(Ended(0, lines(self.answers)))
-        if told is not None:
-            return f"answers: {told}"
+        reported = self.report(program, "answers").differs_from(Ended(0, lines(self.answers)))
+        if reported is not None:
+            return f"answers: {reported}"
         totals = self.report(program, "totals")
         if totals.status != 0 or totals.errors or (self.totals and lines(self.totals) not in totals.output):
             return f"totals: {totals}"
         journal = self.report(program, "journal")
         if journal.status != 0 or journal.errors or not journal.output.endswith(lines(self.journal)):
             return f"journal: {journal}"
-        told = check(program, journal.output)
-        return None if told is None else f"its journal: {told}"
+        reported = check(program, journal.output)
+        return None if reported is None else f"its journal: {reported}"
 
 
 ROWS = (
@@ -445,18 +445,18 @@ def counts_at_their_limit(program: Path) -> Optional[str]:
     answers = [answer for _, times, answer in AT_THEIR_LIMIT for _ in range(times)]
     script = lines(" / ".join(["setup", *commands]))
     wanted = lines(" / ".join(f"0 {index} {answer}" for index, answer in enumerate(answers, 1)))
-    told = run(program, Call(("--report", "answers"), script)).differs_from(Ended(0, wanted))
-    return told or check(program, run(program, Call(("--report", "journal"), script)).output)
+    reported = run(program, Call(("--report", "answers"), script)).differs_from(Ended(0, wanted))
+    return reported or check(program, run(program, Call(("--report", "journal"), script)).output)
 
 
 def two_workers(program: Path) -> Optional[str]:
     """What a report of two workers on one node contains that neither order can produce; or None."""
     for report, texts in EITHER.items():
-        told = run(program, Call(("--workers", "2", "--report", report), lines(TWO_WORKERS)))
-        if told not in [Ended(0, lines(text)) for text in texts]:
-            return f"{report}: {told}"
-        if report == "journal" and check(program, told.output) is not None:
-            return f"an illegal journal: {told}"
+        reported = run(program, Call(("--workers", "2", "--report", report), lines(TWO_WORKERS)))
+        if reported not in [Ended(0, lines(text)) for text in texts]:
+            return f"{report}: {reported}"
+        if report == "journal" and check(program, reported.output) is not None:
+            return f"an illegal journal: {reported}"
     return None
 
 

@@ -26,7 +26,7 @@ ABSENT = {"PKG_CONFIG": "/nonexistent/pkg-config", "THP_LIB": ""}
 """An environment in which only a folder beside the crate can have the library."""
 
 
-def told(*command: str) -> str | None:
+def output_of(*command: str) -> str | None:
     """The output of a command that asks for a version, or None if this machine has no such program."""
     if shutil.which(command[0]) is None:
         return None
@@ -51,7 +51,7 @@ class Crates:
 
     def are_clean(self) -> str | None:
         """clippy has no warning about the crates."""
-        if told("cargo", "clippy", "--version") is None:
+        if output_of("cargo", "clippy", "--version") is None:
             raise Missing("no cargo clippy here")
         return self.cargo("clippy", "--workspace", "--all-targets", "--", "-D", "warnings")
 
@@ -61,7 +61,7 @@ class Crates:
 
     def are_packed(self) -> str | None:
         """cargo packs the crates, with their licences, and builds what it packed."""
-        if tuple(map(int, re.findall(r"\d+", told("cargo", "--version") or "")[:2])) < PACKING:
+        if tuple(map(int, re.findall(r"\d+", output_of("cargo", "--version") or "")[:2])) < PACKING:
             raise Missing("no cargo 1.90 here")
         wrong = self.cargo("package", "--workspace", "--allow-dirty")
         for name, more in (("leversorrel", "node.rs"), ("leversorrel-sys", "build.rs")):

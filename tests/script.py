@@ -146,19 +146,19 @@ def first_illegal(lines: Iterable[str]) -> Optional[int]:
 
 def summary(lines: Iterable[str]) -> list[str]:
     """The totals of each node of a journal text without errors, up to the node's first illegal line."""
-    told: list[list[str]] = []
+    reported: list[list[str]] = []
     node: Optional[Node] = None
     for line in lines:
         words = line.split()
         if words[0] == "node":
             node = node_of(words)
-            told.append(node.totals(len(told)))
+            reported.append(node.totals(len(reported)))
         elif words[0] not in ("thp-journal", "end") and node is not None:
             if fits(node, line):
-                told[-1] = node.totals(len(told) - 1)
+                reported[-1] = node.totals(len(reported) - 1)
             else:
                 node = None
-    return [line for totals in told for line in totals]
+    return [line for totals in reported for line in totals]
 
 
 def node_of(words: list[str]) -> Node:

@@ -46,16 +46,16 @@ def shapes(row: Row) -> list[Shape]:
     return [(blocks, int(order), None if it == "off" else int(it)) for order, it in zip(orders, switches)]
 
 
-def told(fault: Fault) -> Ended:
+def fails_with(fault: Fault) -> Ended:
     """The end of a run whose text has this first error."""
-    return Ended(2, b"", fault.told())
+    return Ended(2, b"", fault.message())
 
 
 def of_script(row: Row, text: bytes) -> Work:
     """A script with a row's options, and its first error or its totals."""
     fault = script_fault(text, len(shapes(row)), int(options(row).get("workers", 1)))
     if fault is not None:
-        return (tuple(row.words.split()), text, told(fault))
+        return (tuple(row.words.split()), text, fails_with(fault))
     run = Run(shapes(row))
     run.text(text.decode())
     return (tuple(row.words.split()), text, Ended(0, "".join(f"{line}\n" for line in run.totals()).encode()))
@@ -65,7 +65,7 @@ def of_journal(text: bytes) -> Work:
     """A journal, and its first error or its verdict."""
     fault = journal_fault(text)
     if fault is not None:
-        return (("--check",), text, told(fault))
+        return (("--check",), text, fails_with(fault))
     line = first_illegal(text.decode().split("\n")[:-1])
     wanted = Ended(0, b"legal\n") if line is None else Ended(1, f"illegal line {line}\n".encode())
     return (("--check",), text, wanted)
@@ -101,11 +101,11 @@ def ended(program: Path, words: tuple[str, ...], text: bytes) -> Ended:
     )
     os.close(reader)
     try:
-        told = child.communicate(timeout=SECONDS)
+        reported = child.communicate(timeout=SECONDS)
     except subprocess.TimeoutExpired:
         child.kill()
         return Ended(-9, *child.communicate())
-    return Ended(child.returncode, *told)
+    return Ended(child.returncode, *reported)
 
 
 def wrong(program: Path, work: Work) -> Optional[str]:

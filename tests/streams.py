@@ -186,9 +186,9 @@ def checker_rows() -> Iterator[Row]:
     yield from full("a verdict", Call((), LEGAL, output=Sink.FULL))
 
 
-def fault(told: str, name: str = "thpsplit") -> Ended:
+def fault(reported: str, name: str = "thpsplit") -> Ended:
     """A text with an error."""
-    return Ended(2, b"", f"{name}: {told}\n".encode())
+    return Ended(2, b"", f"{name}: {reported}\n".encode())
 
 
 def full(name: str, call: Call) -> Iterator[Row]:

@@ -314,8 +314,8 @@ def main() -> None:
         for name, text in large_journals():
             tally.report(name, run(path, Call(("--table",), text, Source.FILE)).differs_from(table(text)))
         cases = [Case(path, given.seed, place) for place in range(given.cases)]
-        for case, told in zip(cases, pool.imap(wrong, cases)):
-            tally.report(f"table {case.place} of seed {case.seed}", told)
+        for case, reported in zip(cases, pool.imap(wrong, cases)):
+            tally.report(f"table {case.place} of seed {case.seed}", reported)
     tally.end()
 
 

@@ -52,7 +52,7 @@ class Fault:
     line: int
     word: str
 
-    def told(self) -> bytes:
+    def message(self) -> bytes:
         """The line about it on standard error."""
         return f"thpsplit: line {self.line}: {self.word}\n".encode()
 

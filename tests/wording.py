@@ -21,7 +21,7 @@ MOST = 120
 REPLACED = {
     "behind": "after",
     "in front of": "before, at the head of",
-    r"tells?|told": "returns, reports, states, specifies",
+    r"t(?:ells?|old)": "returns, reports, states, specifies",
     r"says?|said": "returns, reports, states, specifies",
     r"(?:is|are|was|were) answered|answered by": "returns, the result is",
     r"stands?|stood": "is in, is on, is stored in",

@@ -102,9 +102,9 @@ class Script:
         self.find_legal()
         for report, legal in self.legal.items():
             for _ in range(TURNS):
-                told = run(program, Call(("--workers", "63", "--report", report), self.text()))
-                if (told.status, told.errors) != (0, b"") or told.output not in legal:
-                    return f"{report}: none of {len(legal)} texts is {told}"
+                reported = run(program, Call(("--workers", "63", "--report", report), self.text()))
+                if (reported.status, reported.errors) != (0, b"") or reported.output not in legal:
+                    return f"{report}: none of {len(legal)} texts is {reported}"
         return None
 
 
@@ -150,14 +150,14 @@ RETURNED = ["taken 0", "refused has-batch", "refused has-batch", "done", "back 0
 
 def own_answers(program: Path, script: bytes) -> tuple[Optional[str], list[list[str]]]:
     """What is wrong with the report of answers as a whole, and what each worker's commands returned, in order."""
-    told = run(program, Call((*OPTIONS, "--report", "answers"), script))
-    lines = [line.split(" ", 2) for line in told.output.decode().splitlines()]
+    reported = run(program, Call((*OPTIONS, "--report", "answers"), script))
+    lines = [line.split(" ", 2) for line in reported.output.decode().splitlines()]
     lists: list[list[str]] = [[] for _ in range(MOST_WORKERS + 1)]
     for caller, place, answer in lines:
         lists[int(caller)].append(answer)
         if int(place) != len(lists[int(caller)]):
             return f"caller {caller}: {place} follows {len(lists[int(caller)]) - 1}", []
-    wrong = None if (told.status, told.errors) == (0, b"") else f"status {told.status}, {told.errors!r}"
+    wrong = None if (reported.status, reported.errors) == (0, b"") else f"status {reported.status}, {reported.errors!r}"
     return wrong, lists
 
 
@@ -178,10 +178,10 @@ def closers(program: Path) -> Optional[str]:
 
 def closer_journal(program: Path, script: bytes) -> Optional[str]:
     """The journal has the events of setup and one close."""
-    told = run(program, Call((*OPTIONS, "--report", "journal"), script))
+    reported = run(program, Call((*OPTIONS, "--report", "journal"), script))
     front = SETUP_JOURNAL[: -len(b"end\n")]
     ends = [Ended(0, front + b"%d close\nend\n" % caller) for caller in range(1, MOST_WORKERS + 1)]
-    return None if told in ends else f"journal: {told.status}, {told.output[-80:]!r}"
+    return None if reported in ends else f"journal: {reported.status}, {reported.output[-80:]!r}"
 
 
 def droppers(program: Path) -> Optional[str]:
@@ -219,12 +219,12 @@ def turn_word(answers: Sequence[str]) -> str:
 
 def dropper_journal(program: Path, script: bytes) -> Optional[str]:
     """The journal has one close, a try and an end for each take, and is legal."""
-    told = run(program, Call((*OPTIONS, "--report", "journal"), script))
-    events = [line.split(b" ")[1] for line in told.output.splitlines()[2:-1]]
+    reported = run(program, Call((*OPTIONS, "--report", "journal"), script))
+    events = [line.split(b" ")[1] for line in reported.output.splitlines()[2:-1]]
     taken, tried, back, dropped = (events.count(word) for word in (b"taken", b"pinned", b"back", b"dropped"))
-    if told.status or events.count(b"close") != 1 or not taken == tried == back + dropped or dropped > MOST_BATCH:
-        return f"journal: status {told.status}, {taken} taken, {tried} pinned, {back} back, {dropped} dropped"
-    return run(program, Call(CHECK, told.output)).differs_from(LEGAL)
+    if reported.status or events.count(b"close") != 1 or not taken == tried == back + dropped or dropped > MOST_BATCH:
+        return f"journal: status {reported.status}, {taken} taken, {tried} pinned, {back} back, {dropped} dropped"
+    return run(program, Call(CHECK, reported.output)).differs_from(LEGAL)
 
 
 def takers(program: Path) -> Optional[str]:
@@ -247,13 +247,13 @@ def takers(program: Path) -> Optional[str]:
 
 def taker_journal(program: Path, script: bytes, tries: int) -> Optional[str]:
     """The journal has one event for each take, try and put back, and is legal."""
-    told = run(program, Call((*OPTIONS, "--report", "journal"), script))
+    reported = run(program, Call((*OPTIONS, "--report", "journal"), script))
     wanted = {b"taken": tries, b"pinned": tries, b"back": tries, b"pin": MOST_BATCH, b"alloc": MOST_BATCH}
-    events = [line.split(b" ")[1] for line in told.output.splitlines()[2:-1]]
+    events = [line.split(b" ")[1] for line in reported.output.splitlines()[2:-1]]
     counts = {word: events.count(word) for word in wanted}
-    if told.status or counts != wanted or len(events) != 3 * tries + 4 * MOST_BATCH:
-        return f"journal: status {told.status}, {counts} of {len(events)} events"
-    return run(program, Call(CHECK, told.output)).differs_from(LEGAL)
+    if reported.status or counts != wanted or len(events) != 3 * tries + 4 * MOST_BATCH:
+        return f"journal: status {reported.status}, {counts} of {len(events)} events"
+    return run(program, Call(CHECK, reported.output)).differs_from(LEGAL)
 
 
 def main() -> None:

@@ -18,7 +18,7 @@ static int tries = 15, nodes = 400;
 static thp_node node;
 static thp_pass pass;
 static uint64_t page;
-static uint64_t told; /* of the answers, so that none is left out */
+static uint64_t reported; /* of the answers, so that none is left out */
 
 static void want(thp_code code) {
     if (code != THP_OK) {
@@ -79,23 +79,23 @@ static void drop_pass(void) { want(thp_pass_destroy(&pass)); }
 static void count(void) {
     uint32_t pages;
     want(thp_node_queue_length(&node, &pages));
-    told += pages;
+    reported += pages;
 }
 
-static void refused(void) { told += thp_node_pin(&node, 0, 7) == THP_NO_PAGE; }
+static void refused(void) { reported += thp_node_pin(&node, 0, 7) == THP_NO_PAGE; }
 
 static void pin_unpin(void) {
     thp_done done;
     want(thp_node_pin(&node, 0, page));
     want(thp_node_unpin(&node, 0, page, &done));
-    told += done.released[0];
+    reported += done.released[0];
 }
 
 static void map_unmap(uint32_t first, uint32_t subpages) {
     thp_done done;
     want(thp_node_map_sub(&node, 0, page, first, subpages));
     want(thp_node_unmap_sub(&node, 0, page, first, subpages, &done));
-    told += done.released[0];
+    reported += done.released[0];
 }
 
 static void one_subpage(void) { map_unmap(17, 1); }
@@ -111,7 +111,7 @@ static void live(void) {
     want(thp_node_unmap_sub(&node, 0, born, 0, 256, &done));
     want(thp_node_scan(&node, 0, 1, &scan));
     want(thp_node_unmap_sub(&node, 0, born, 256, 256, &done));
-    told += scan.split + done.released[7];
+    reported += scan.split + done.released[7];
 }
 
 static void try_batch(void) {
@@ -121,7 +121,7 @@ static void try_batch(void) {
     want(thp_node_take(&node, 0, BATCH, &count));
     for (int k = 0; k < BATCH; k++) want(thp_node_split_next(&node, 0, &tried));
     want(thp_node_put_back(&node, 0, &back));
-    told += count + tried.page + back.back;
+    reported += count + tried.page + back.back;
 }
 
 /* the same on a shared node */
@@ -129,23 +129,23 @@ static void try_batch(void) {
 static void shared_count(void) {
     uint32_t pages;
     want(thp_pass_count(&pass, &pages));
-    told += pages;
+    reported += pages;
 }
 
-static void shared_refused(void) { told += thp_pass_pin(&pass, 0, 7) == THP_NO_PAGE; }
+static void shared_refused(void) { reported += thp_pass_pin(&pass, 0, 7) == THP_NO_PAGE; }
 
 static void shared_pin_unpin(void) {
     thp_done done;
     want(thp_pass_pin(&pass, 0, page));
     want(thp_pass_unpin(&pass, 0, page, &done));
-    told += done.released[0];
+    reported += done.released[0];
 }
 
 static void shared_subpage(void) {
     thp_done done;
     want(thp_pass_map_sub(&pass, 0, page, 17, 1));
     want(thp_pass_unmap_sub(&pass, 0, page, 17, 1, &done));
-    told += done.released[0];
+    reported += done.released[0];
 }
 
 static void shared_batch(void) {
@@ -155,7 +155,7 @@ static void shared_batch(void) {
     want(thp_pass_take(&pass, 0, BATCH, &count));
     for (int k = 0; k < BATCH; k++) want(thp_pass_split_next(&pass, 0, &tried));
     want(thp_pass_put_back(&pass, 0, &back));
-    told += count + tried.page + back.back;
+    reported += count + tried.page + back.back;
 }
 
 /* a kind of round: what it is, the calls of one, how many are made of a node or a cell, and what makes all of it */
@@ -213,6 +213,6 @@ int main(int count_of_words, char **words) {
     if (count_of_words > 2) nodes = atoi(words[2]);
     for (size_t k = 0; k < sizeof KINDS / sizeof KINDS[0]; k++) time_rounds(&KINDS[k]);
     if (nodes > 1) time_growing("pin and unpin, 600,000 calls on one growing journal");
-    fprintf(stderr, "answers: %llu\n", (unsigned long long)told);
+    fprintf(stderr, "answers: %llu\n", (unsigned long long)reported);
     return 0;
 }

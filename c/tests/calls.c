@@ -470,29 +470,29 @@ static void journals(void) {
     ANSWERS(thp_node_destroy(&node), THP_OK);
 }
 
-/* one random call on a node: its code, and in `told` all that it stores */
-static thp_code some_call(thp_node *node, uint32_t kind, uint32_t page, uint32_t at, void *told, size_t room) {
-    uint64_t *number = (uint64_t *)told;
-    memset(told, 0, room);
+/* one random call on a node: its code, and in `reported` all that it stores */
+static thp_code some_call(thp_node *node, uint32_t kind, uint32_t page, uint32_t at, void *reported, size_t room) {
+    uint64_t *number = (uint64_t *)reported;
+    memset(reported, 0, room);
     switch (kind) {
     case 0: return thp_node_alloc(node, at, number);
     case 1: case 2: return thp_node_split_pmd(node, at, page);
     case 3: return thp_node_map_sub(node, at, page, at, 1);
-    case 4: case 5: case 6: return thp_node_unmap_sub(node, at, page, at, 1, (thp_done *)told);
+    case 4: case 5: case 6: return thp_node_unmap_sub(node, at, page, at, 1, (thp_done *)reported);
     case 7: return thp_node_pin(node, at, page);
-    case 8: return thp_node_unpin(node, at, page, (thp_done *)told);
+    case 8: return thp_node_unpin(node, at, page, (thp_done *)reported);
     case 9: return thp_node_zero(node, at, page, at, 1);
-    case 10: return thp_node_scan(node, at, 2, (thp_scan *)told);
-    case 11: return thp_node_take(node, at, 2, (uint32_t *)told);
-    case 12: return thp_node_split_next(node, at, (thp_tried *)told);
-    default: return thp_node_put_back(node, at, (thp_back *)told);
+    case 10: return thp_node_scan(node, at, 2, (thp_scan *)reported);
+    case 11: return thp_node_take(node, at, 2, (uint32_t *)reported);
+    case 12: return thp_node_split_next(node, at, (thp_tried *)reported);
+    default: return thp_node_put_back(node, at, (thp_back *)reported);
     }
 }
 
 /* a node that only counts its events answers as one that keeps them does, and has no journal */
 static void counting(void) {
     thp_node kept = EMPTY, counted = EMPTY;
-    uint64_t told[16], other[16];
+    uint64_t reported[16], other[16];
     thp_stats stats, others;
     uint32_t random = 1;
     size_t size = 7;
@@ -507,8 +507,8 @@ static void counting(void) {
         const uint32_t kind = (random >> 24) % 14, at = (random >> 20) % 4;
         ANSWERS(thp_node_stats(&kept, &stats), THP_OK);
         const uint32_t page = (uint32_t)stats.allocations - 1 - (random >> 12) % 8;
-        ANSWERS(some_call(&counted, kind, page, at, told, sizeof told), some_call(&kept, kind, page, at, other, sizeof other));
-        WANT(memcmp(told, other, sizeof told) == 0);
+        ANSWERS(some_call(&counted, kind, page, at, reported, sizeof reported), some_call(&kept, kind, page, at, other, sizeof other));
+        WANT(memcmp(reported, other, sizeof reported) == 0);
         ANSWERS(thp_node_stats(&kept, &stats), THP_OK);
         ANSWERS(thp_node_stats(&counted, &others), THP_OK);
         WANT(memcmp(&stats, &others, sizeof stats) == 0);
@@ -516,8 +516,8 @@ static void counting(void) {
     WANT(stats.events > 4000 && stats.split_page > 100);
     ANSWERS(thp_node_journal(&counted, &byte, 1, &size), THP_NO_JOURNAL);
     WANT(size == 7 && byte == '#');
-    ANSWERS(thp_node_queue(&counted, told, 16, &random), THP_NO_JOURNAL);
-    ANSWERS(thp_node_queue(&kept, told, 16, &random), THP_OK);
+    ANSWERS(thp_node_queue(&counted, reported, 16, &random), THP_NO_JOURNAL);
+    ANSWERS(thp_node_queue(&kept, reported, 16, &random), THP_OK);
     ANSWERS(thp_node_journal(&kept, &byte, 1, &size), THP_TOO_SMALL);
     ANSWERS(thp_node_destroy(&counted), THP_OK);
     ANSWERS(thp_node_destroy(&kept), THP_OK);

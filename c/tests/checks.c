@@ -141,7 +141,7 @@ static void long_text(void) {
     ANSWERS(thp_check_destroy(&check), THP_OK);
 }
 
-/* a whole check with each request refused in turn: what is lost for want of memory is told, and is given back */
+/* a whole check with each request refused in turn: what is lost for want of memory is reported, and is given back */
 static void refused(void) {
     static const char text[] =
         "thp-journal 3\nnode 0 blocks 16 order 4 underused 3\n0 alloc 0\n0 splitpmd 0\n1 write 0 0 3\nnode 1 blocks 2 order 2 underused off\n"
@@ -163,12 +163,12 @@ static void refused(void) {
         }
         ANSWERS(thp_check_finish(&check, &line), THP_ILLEGAL);
         WANT(line == 8);
-        thp_code told = thp_check_reason(&check, reason, sizeof reason, &size);
-        if (told == THP_OUT_OF_MEMORY) {
+        thp_code reported = thp_check_reason(&check, reason, sizeof reason, &size);
+        if (reported == THP_OUT_OF_MEMORY) {
             WANT(lost++ == 0);
-            told = thp_check_reason(&check, reason, sizeof reason, &size);
+            reported = thp_check_reason(&check, reason, sizeof reason, &size);
         }
-        WANT(told == THP_OK && size > 0 && memcmp(reason, "line 8: 7 unpin 0 stays -\n", 26) == 0);
+        WANT(reported == THP_OK && size > 0 && memcmp(reason, "line 8: 7 unpin 0 stays -\n", 26) == 0);
         ANSWERS(thp_check_destroy(&check), THP_OK);
         WANT(blocks == 0);
         WANT(lost == (k > 0));

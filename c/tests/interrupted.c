@@ -129,10 +129,10 @@ static void *is_cancelled(void *node) {
 static void cancelled(void) {
     thp_node node = THP_NODE_INIT;
     pthread_t thread;
-    void *told = NULL;
+    void *reported = NULL;
     ANSWERS(thp_node_create(&node, 4, 9, THP_UNDERUSED_OFF), THP_OK);
     WANT(pthread_create(&thread, NULL, is_cancelled, &node) == 0);
-    WANT(pthread_join(thread, &told) == 0 && told == PTHREAD_CANCELED);
+    WANT(pthread_join(thread, &reported) == 0 && reported == PTHREAD_CANCELED);
     WANT(reached && !passed);
     ANSWERS(thp_node_destroy(&node), THP_EMPTY);
 }

@@ -21,7 +21,7 @@ typedef struct place {
     thp_node node;
     thp_pass lower, upper; /* the callers below `at`, and those from it on */
     uint32_t at;
-    bool tells_used;
+    bool reports_used;
     bool is_open[CALLERS]; /* the caller has an open batch here */
 } place;
 
@@ -148,7 +148,7 @@ static void command(uint32_t caller, char *words[WORDS]) {
         if (code == THP_OK) {
             printf("taken %" PRIu32 " split %" PRIu32 " pinned %" PRIu32 " back %" PRIu32 " dropped %" PRIu32, scan.taken,
                    scan.split, scan.pinned, scan.back, scan.dropped);
-            if (at->tells_used) printf(" used %" PRIu32, scan.used);
+            if (at->reports_used) printf(" used %" PRIu32, scan.used);
             printf("\n");
         }
     } else if (strcmp(word, "take") == 0) {
@@ -202,8 +202,8 @@ static void make(uint32_t blocks, char *const *shapes) {
     for (; shapes[nodes] != NULL && nodes < NODES; nodes++) {
         char *underused = strchr(shapes[nodes], ',');
         if (underused == NULL) fail("a node wants its order and its threshold");
-        places[nodes].tells_used = strcmp(underused, ",off") != 0;
-        const uint32_t threshold = places[nodes].tells_used ? (uint32_t)strtoul(underused + 1, NULL, 10) : THP_UNDERUSED_OFF;
+        places[nodes].reports_used = strcmp(underused, ",off") != 0;
+        const uint32_t threshold = places[nodes].reports_used ? (uint32_t)strtoul(underused + 1, NULL, 10) : THP_UNDERUSED_OFF;
         const uint32_t order = (uint32_t)strtoul(shapes[nodes], NULL, 10);
         place *at = &places[nodes];
         thp_code code = by_passes ? thp_cell_create(&at->lower, blocks, order, threshold, CALLERS)
@@ -221,14 +221,14 @@ static void finish(place *at) {
 }
 
 /* each node's journal is legal, and is written where it is asked for */
-static void end_node(thp_node *node, bool tells) {
+static void end_node(thp_node *node, bool reports) {
     size_t size;
     uint32_t line;
     if (thp_node_journal(node, NULL, 0, &size) != THP_TOO_SMALL) fail("no length");
     uint8_t *text = malloc(size);
     if (text == NULL || thp_node_journal(node, text, size, &size) != THP_OK) fail("no journal");
     if (thp_check_text(text, size, &line) != THP_OK) fail("the journal isn't legal");
-    if (tells) fwrite(text, 1, size, stdout);
+    if (reports) fwrite(text, 1, size, stdout);
     free(text);
     if (thp_node_destroy(node) != THP_OK) fail("not given back");
 }

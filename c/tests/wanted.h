@@ -1,4 +1,4 @@
-/* What a test wants, for C and C++: each want that fails is told by its line, and counted. */
+/* What a test wants, for C and C++: each want that fails is printed with its line, and counted. */
 #ifndef WANTED_H
 #define WANTED_H
 

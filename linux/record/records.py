@@ -55,7 +55,7 @@ WITH_QUEUE = frozenset([Kind.EXIT, Kind.EXIT_MMAP, Kind.SCAN, Kind.SCANNED, Kind
 OBSERVED = frozenset([Kind.QUEUED, Kind.UNQUEUED, Kind.BATCH, Kind.TRIED])
 IN_FAULT, JOINED = 1, 2  # how a page is allocated; bits of a page that is in a list after the call alone
 _KINDS = tuple((kind, kind in WITH_QUEUE) for kind in Kind)
-_SUBPAGES = (1 << 23) - 1  # of _nr_pages_mapped: the bits above it tell whether a PMD entry maps the page
+_SUBPAGES = (1 << 23) - 1  # of _nr_pages_mapped: the bits above it show whether a PMD entry maps the page
 
 
 @dataclass(eq=False)

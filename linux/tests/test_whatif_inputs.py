@@ -184,13 +184,13 @@ BAD_FILES = (("/nowhere", "/nowhere can't be read"), (SCRIPT, "this is no stored
 
 
 class Program(unittest.TestCase):
-    def refused(self, status: int, told: str, *words: str, user: int | None = None) -> None:
+    def refused(self, status: int, reported: str, *words: str, user: int | None = None) -> None:
         done = run(*words, user=user)
         self.assertEqual((done.returncode, done.stdout, done.stderr.count("\n")), (status, "", 1), done.stderr)
-        self.assertRegex(done.stderr, f"^thpwhatif.*{told}")
+        self.assertRegex(done.stderr, f"^thpwhatif.*{reported}")
 
     def test_faults_of_words(self) -> None:
-        for words, told in (
+        for words, reported in (
             ((), "COMMAND"),
             (("nothing",), "invalid choice"),
             (("what-if",), "FILE"),
@@ -199,9 +199,9 @@ class Program(unittest.TestCase):
             (("target", "5XB", "x"), "'5XB' is no size from 0.001 to"),
             (("now", "--all", "--pid", "1"), "--all selects every process"),
             (("watch", "0", "--all"), "SECONDS"),
-            *((("what-if", path), told) for path, told in BAD_FILES if not LACKING),
+            *((("what-if", path), reported) for path, reported in BAD_FILES if not LACKING),
         ):
-            self.refused(2, told, *words)
+            self.refused(2, reported, *words)
 
     def test_sizes(self) -> None:
         for text, size in (("500", 500), ("0.5", 0.5), ("5G", 5120), ("5GiB", 5120), ("5GB", 5e9 / 2**20), ("2T", 2 << 20), ("1MiB", 1)):

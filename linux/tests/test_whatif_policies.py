@@ -186,10 +186,10 @@ class Runs(FolderCase):
         self.assertEqual(found[0], found[2])
         self.assertEqual(found[1], found[2])
 
-    def refused(self, told: str, *words: str) -> None:
+    def refused(self, reported: str, *words: str) -> None:
         done = run("policies", *words)
         self.assertEqual((done.returncode, done.stdout, done.stderr.count("\n")), (2, "", 1), done.stderr)
-        self.assertIn(told, done.stderr)
+        self.assertIn(reported, done.stderr)
 
     def test_faults(self) -> None:
         journal, ten = self.write(TWO), [str(number) for number in range(10)]
@@ -200,10 +200,10 @@ class Runs(FolderCase):
         self.refused("1 files of times for 2 journals", journal, journal, "--times", journal)
         self.refused("is no legal journal", str(ROOT / "examples" / "first.script"))
         self.refused("illegal line 10", self.write(TWO.replace("split 0 0-255", "split 0 0-254"), "illegal"))
-        for times, told in (
+        for times, reported in (
             (ten[:9], "line 12: there is no time of this event"), (ten + ["10"], "more times"),
             (["5", *ten[:9]], "line 4: its time isn't"), (["inf", *ten[1:]], "line 4: its time"),
             (["nan", *ten[1:]], "line 3: its time"), (["-1", *ten[1:]], "line 3: its time"), ([*ten[:9], "1e11"], "line 12: its time"),
             ([*ten[:9], "x"], "a time from line 3 on is no number: could not"),
         ):
-            self.refused(told, journal, "--times", self.write("\n".join(times) + "\n", "times"))
+            self.refused(reported, journal, "--times", self.write("\n".join(times) + "\n", "times"))

@@ -29,13 +29,13 @@ pub struct Done {
 }
 
 impl Done {
-    pub(crate) fn of(told: sys::thp_done) -> Done {
-        let outcome = match told.outcome {
+    pub(crate) fn of(reported: sys::thp_done) -> Done {
+        let outcome = match reported.outcome {
             sys::THP_STAYS => Outcome::Stays,
             sys::THP_QUEUED => Outcome::Queued,
             _ => Outcome::Freed,
         };
-        Done { outcome, released: SubSet::of(told.released) }
+        Done { outcome, released: SubSet::of(reported.released) }
     }
 }
 
@@ -54,12 +54,12 @@ pub enum Tried {
 }
 
 impl Tried {
-    pub(crate) fn of(told: sys::thp_tried) -> Tried {
-        match told.kind {
+    pub(crate) fn of(reported: sys::thp_tried) -> Tried {
+        match reported.kind {
             sys::THP_TRY_DONE => Tried::Done,
-            sys::THP_TRY_SPLIT => Tried::Split(told.page),
-            sys::THP_TRY_PINNED => Tried::Pinned(told.page),
-            _ => Tried::Used(told.page),
+            sys::THP_TRY_SPLIT => Tried::Split(reported.page),
+            sys::THP_TRY_PINNED => Tried::Pinned(reported.page),
+            _ => Tried::Used(reported.page),
         }
     }
 }
@@ -82,8 +82,8 @@ pub struct Scan {
 }
 
 impl Scan {
-    pub(crate) fn of(told: sys::thp_scan) -> Scan {
-        let sys::thp_scan { taken, split, pinned, back, dropped, used } = told;
+    pub(crate) fn of(reported: sys::thp_scan) -> Scan {
+        let sys::thp_scan { taken, split, pinned, back, dropped, used } = reported;
         Scan { taken, split, pinned, back, dropped, used }
     }
 }
@@ -98,8 +98,8 @@ pub struct Back {
 }
 
 impl Back {
-    pub(crate) fn of(told: sys::thp_back) -> Back {
-        Back { back: told.back, dropped: told.dropped }
+    pub(crate) fn of(reported: sys::thp_back) -> Back {
+        Back { back: reported.back, dropped: reported.dropped }
     }
 }
 
@@ -157,8 +157,8 @@ pub struct PageState {
 }
 
 impl PageState {
-    fn of(told: sys::thp_page_state) -> PageState {
-        let sys::thp_page_state { whole_mapcount, pins, partly_mapped, split, list, caller } = told;
+    fn of(reported: sys::thp_page_state) -> PageState {
+        let sys::thp_page_state { whole_mapcount, pins, partly_mapped, split, list, caller } = reported;
         let list = match list {
             sys::THP_LIST_NONE => List::Nowhere,
             sys::THP_LIST_QUEUE => List::Queue,
@@ -243,10 +243,10 @@ impl Node {
 
     /// Removes one mapping of the whole page. Fails with `NoPage`, `IsSplit` or `NotMapped`.
     pub fn unmap_whole(&mut self, caller: u32, page: u64) -> Result<Done, Fault> {
-        let mut told = sys::thp_done::default();
+        let mut reported = sys::thp_done::default();
         // SAFETY: the handle is this node's own, and the result goes to a local.
-        done(unsafe { sys::thp_node_unmap_whole(&mut self.handle, caller, page, &mut told) })?;
-        Ok(Done::of(told))
+        done(unsafe { sys::thp_node_unmap_whole(&mut self.handle, caller, page, &mut reported) })?;
+        Ok(Done::of(reported))
     }
 
     /// Maps each of the `count` subpages from `first` on once more, by PTE entries. Fails with `NoPage`, `BadRange`, `Gone` or
@@ -259,10 +259,10 @@ impl Node {
     /// Removes one mapping of each of the `count` subpages from `first` on, which can queue or free the page. Fails with
     /// `NoPage`, `BadRange` or `NotMapped`.
     pub fn unmap_sub(&mut self, caller: u32, page: u64, first: u32, count: u32) -> Result<Done, Fault> {
-        let mut told = sys::thp_done::default();
+        let mut reported = sys::thp_done::default();
         // SAFETY: the handle is this node's own, and the result goes to a local.
-        done(unsafe { sys::thp_node_unmap_sub(&mut self.handle, caller, page, first, count, &mut told) })?;
-        Ok(Done::of(told))
+        done(unsafe { sys::thp_node_unmap_sub(&mut self.handle, caller, page, first, count, &mut reported) })?;
+        Ok(Done::of(reported))
     }
 
     /// Replaces one PMD mapping by a PTE mapping of each subpage. Fails with `NoPage`, `IsSplit` or `NotMapped`.
@@ -279,10 +279,10 @@ impl Node {
 
     /// Removes a pin, which can free the page. Fails with `NoPage`, `IsSplit` or `NotPinned`.
     pub fn unpin(&mut self, caller: u32, page: u64) -> Result<Done, Fault> {
-        let mut told = sys::thp_done::default();
+        let mut reported = sys::thp_done::default();
         // SAFETY: the handle is this node's own, and the result goes to a local.
-        done(unsafe { sys::thp_node_unpin(&mut self.handle, caller, page, &mut told) })?;
-        Ok(Done::of(told))
+        done(unsafe { sys::thp_node_unpin(&mut self.handle, caller, page, &mut reported) })?;
+        Ok(Done::of(reported))
     }
 
     /// Records that data is written to each of the `count` subpages from `first` on, which are not zero-filled afterwards. Fails
@@ -308,10 +308,10 @@ impl Node {
     /// Takes up to `n` of the oldest queued pages (at most 128), in order, tries each, and returns the pinned ones. Fails with
     /// `BadCount` or `HasBatch`.
     pub fn scan(&mut self, caller: u32, n: u32) -> Result<Scan, Fault> {
-        let mut told = sys::thp_scan::default();
+        let mut reported = sys::thp_scan::default();
         // SAFETY: the handle is this node's own, and the result goes to a local.
-        done(unsafe { sys::thp_node_scan(&mut self.handle, caller, n, &mut told) })?;
-        Ok(Scan::of(told))
+        done(unsafe { sys::thp_node_scan(&mut self.handle, caller, n, &mut reported) })?;
+        Ok(Scan::of(reported))
     }
 
     /// Takes up to `n` of the oldest queued pages (at most 128), in order, into the caller's batch, which is open afterwards.
@@ -331,19 +331,19 @@ impl Node {
 
     /// Tries the next page of the caller's open batch that is still in flight. Fails with `NoBatch`.
     pub fn split_next(&mut self, caller: u32) -> Result<Tried, Fault> {
-        let mut told = sys::thp_tried::default();
+        let mut reported = sys::thp_tried::default();
         // SAFETY: the handle is this node's own, and the result goes to a local.
-        done(unsafe { sys::thp_node_split_next(&mut self.handle, caller, &mut told) })?;
-        Ok(Tried::of(told))
+        done(unsafe { sys::thp_node_split_next(&mut self.handle, caller, &mut reported) })?;
+        Ok(Tried::of(reported))
     }
 
     /// Returns the remaining pages of the caller's open batch, and closes the batch. Fails with `NoBatch`; with `OutOfMemory` the
     /// batch stays open.
     pub fn put_back(&mut self, caller: u32) -> Result<Back, Fault> {
-        let mut told = sys::thp_back::default();
+        let mut reported = sys::thp_back::default();
         // SAFETY: the handle is this node's own, and the result goes to a local.
-        done(unsafe { sys::thp_node_put_back(&mut self.handle, caller, &mut told) })?;
-        Ok(Back::of(told))
+        done(unsafe { sys::thp_node_put_back(&mut self.handle, caller, &mut reported) })?;
+        Ok(Back::of(reported))
     }
 
     /// Closes the caller's open batch, and leaves its pages in flight, out of the queue. Fails with `NoBatch`.
@@ -382,10 +382,10 @@ impl Node {
 
     /// Returns the state of a live page. Fails with `NoPage`.
     pub fn page(&self, page: u64) -> Result<PageState, Fault> {
-        let mut told = sys::thp_page_state::default();
+        let mut reported = sys::thp_page_state::default();
         // SAFETY: the handle is this node's own, and the result goes to a local.
-        done(unsafe { sys::thp_node_page(&self.handle, page, &mut told) })?;
-        Ok(PageState::of(told))
+        done(unsafe { sys::thp_node_page(&self.handle, page, &mut reported) })?;
+        Ok(PageState::of(reported))
     }
 
     /// Returns the own map count of a subpage of a live page: the number of PTE entries that map it. Fails with `NoPage` or
@@ -399,20 +399,20 @@ impl Node {
 
     /// Returns the node's statistics.
     pub fn stats(&self) -> Stats {
-        let mut told = sys::thp_stats::default();
+        let mut reported = sys::thp_stats::default();
         // SAFETY: the handle is this node's own and is not empty, and the result goes to a local.
-        unsafe { sys::thp_node_stats(&self.handle, &mut told) };
+        unsafe { sys::thp_node_stats(&self.handle, &mut reported) };
         Stats {
-            events: told.events,
-            allocations: told.allocations,
-            queued: told.queued,
-            frames_given: told.frames_given,
-            frames_held: told.frames_held,
-            split_page: told.split_page,
-            split_page_failed: told.split_page_failed,
-            deferred_split_page: told.deferred_split_page,
-            underused_split_page: told.underused_split_page,
-            split_pmd: told.split_pmd,
+            events: reported.events,
+            allocations: reported.allocations,
+            queued: reported.queued,
+            frames_given: reported.frames_given,
+            frames_held: reported.frames_held,
+            split_page: reported.split_page,
+            split_page_failed: reported.split_page_failed,
+            deferred_split_page: reported.deferred_split_page,
+            underused_split_page: reported.underused_split_page,
+            split_pmd: reported.split_pmd,
         }
     }
 

@@ -104,10 +104,10 @@ impl Pass {
     /// Removes one mapping of each of the `count` subpages from `first` on, which can queue or free the page. Fails with
     /// `NoPage`, `BadRange` or `NotMapped`.
     pub fn unmap_sub(&mut self, caller: u32, page: u64, first: u32, count: u32) -> Result<Done, Fault> {
-        let mut told = sys::thp_done::default();
+        let mut reported = sys::thp_done::default();
         // SAFETY: the handle is this pass's own, and the result goes to a local.
-        done(unsafe { sys::thp_pass_unmap_sub(&mut self.handle, caller, page, first, count, &mut told) })?;
-        Ok(Done::of(told))
+        done(unsafe { sys::thp_pass_unmap_sub(&mut self.handle, caller, page, first, count, &mut reported) })?;
+        Ok(Done::of(reported))
     }
 
     /// Maps the whole page once more, by a PMD entry. Fails with `NoPage`, `IsSplit` or `TooMany`.
@@ -151,27 +151,27 @@ impl Pass {
 
     /// Removes one mapping of the whole page. Fails with `NoPage`, `IsSplit` or `NotMapped`.
     pub fn unmap_whole(&mut self, caller: u32, page: u64) -> Result<Done, Fault> {
-        let mut told = sys::thp_done::default();
+        let mut reported = sys::thp_done::default();
         // SAFETY: the handle is this pass's own, and the result goes to a local.
-        done(unsafe { sys::thp_pass_unmap_whole(&mut self.handle, caller, page, &mut told) })?;
-        Ok(Done::of(told))
+        done(unsafe { sys::thp_pass_unmap_whole(&mut self.handle, caller, page, &mut reported) })?;
+        Ok(Done::of(reported))
     }
 
     /// Removes a pin, which can free the page. Fails with `NoPage`, `IsSplit` or `NotPinned`.
     pub fn unpin(&mut self, caller: u32, page: u64) -> Result<Done, Fault> {
-        let mut told = sys::thp_done::default();
+        let mut reported = sys::thp_done::default();
         // SAFETY: the handle is this pass's own, and the result goes to a local.
-        done(unsafe { sys::thp_pass_unpin(&mut self.handle, caller, page, &mut told) })?;
-        Ok(Done::of(told))
+        done(unsafe { sys::thp_pass_unpin(&mut self.handle, caller, page, &mut reported) })?;
+        Ok(Done::of(reported))
     }
 
     /// Takes up to `n` of the oldest queued pages (at most 128), in order, tries each, and returns the pinned ones. Fails with
     /// `BadCount` or `HasBatch`.
     pub fn scan(&mut self, caller: u32, n: u32) -> Result<Scan, Fault> {
-        let mut told = sys::thp_scan::default();
+        let mut reported = sys::thp_scan::default();
         // SAFETY: the handle is this pass's own, and the result goes to a local.
-        done(unsafe { sys::thp_pass_scan(&mut self.handle, caller, n, &mut told) })?;
-        Ok(Scan::of(told))
+        done(unsafe { sys::thp_pass_scan(&mut self.handle, caller, n, &mut reported) })?;
+        Ok(Scan::of(reported))
     }
 
     /// Takes up to `n` of the oldest queued pages (at most 128), in order, into a batch of the caller, which is open afterwards.
@@ -191,19 +191,19 @@ impl Pass {
 
     /// Tries the next page of the caller's open batch that is still in flight. Fails with `NoBatch`.
     pub fn split_next(&mut self, caller: u32) -> Result<Tried, Fault> {
-        let mut told = sys::thp_tried::default();
+        let mut reported = sys::thp_tried::default();
         // SAFETY: the handle is this pass's own, and the result goes to a local.
-        done(unsafe { sys::thp_pass_split_next(&mut self.handle, caller, &mut told) })?;
-        Ok(Tried::of(told))
+        done(unsafe { sys::thp_pass_split_next(&mut self.handle, caller, &mut reported) })?;
+        Ok(Tried::of(reported))
     }
 
     /// Returns the remaining pages of the caller's open batch, and closes the batch. Fails with `NoBatch`; with any other error
     /// the batch stays open.
     pub fn put_back(&mut self, caller: u32) -> Result<Back, Fault> {
-        let mut told = sys::thp_back::default();
+        let mut reported = sys::thp_back::default();
         // SAFETY: the handle is this pass's own, and the result goes to a local.
-        done(unsafe { sys::thp_pass_put_back(&mut self.handle, caller, &mut told) })?;
-        Ok(Back::of(told))
+        done(unsafe { sys::thp_pass_put_back(&mut self.handle, caller, &mut reported) })?;
+        Ok(Back::of(reported))
     }
 
     /// Closes the caller's open batch, and leaves its pages in flight, out of the queue. Fails with `NoBatch`.

@@ -3,7 +3,7 @@
 //!
 //! A sequence is made call by call on nodes of this crate, or by passes of shared ones, and written down as a script. The program's
 //! answers to the script are to be the same, so are each node's numbers, and so is the journal where there is one node. The check
-//! finds each journal legal, and of journals that are spoilt it tells the same as the check of texts that come in parts.
+//! finds each journal legal, and of journals that are spoilt it reports the same as the check of texts that come in parts.
 use std::env;
 use std::io::{self, Write};
 use std::process::{Command, Stdio};
@@ -186,7 +186,7 @@ struct Place {
     open: Option<u32>,
 }
 
-/// A page that wasn't told to be gone.
+/// A page that wasn't reported to be gone.
 #[derive(Clone, Copy)]
 struct Page {
     number: u64,
@@ -238,7 +238,7 @@ impl Place {
             22 => Call::Unmap(page, range),
             23 => Call::Pin(page),
             24 => Call::Unpin(page),
-            // what only version 3 of a journal tells is rare without thresholds
+            // what only version 3 of a journal can state is rare without thresholds
             25..=29 if self.shape.underused.is_none() && chance.below(8) > 0 => Call::Count,
             25..=28 => Call::Write(page, range),
             29 => Call::Zero(page, range),
@@ -291,7 +291,7 @@ impl Place {
         .map(|()| "ok".into())
     }
 
-    /// What an unmap or an unpin told of its page.
+    /// What an unmap or an unpin reported of its page.
     fn lost(&mut self, page: u64, Done { outcome, released }: Done) -> String {
         let word = match outcome {
             Outcome::Stays => "stays",
@@ -311,10 +311,10 @@ impl Place {
         Ok(match call {
             Call::Scan(_) if self.open.is_some() => return Err(Fault::HasBatch),
             Call::Scan(n) => {
-                let told = ask!(node, scan, caller, n)?;
-                let used = self.shape.underused.map_or(String::new(), |_| format!(" used {}", told.used));
-                let (taken, split, pinned) = (told.taken, told.split, told.pinned);
-                format!("taken {taken} split {split} pinned {pinned} back {} dropped {}{used}", told.back, told.dropped)
+                let reported = ask!(node, scan, caller, n)?;
+                let used = self.shape.underused.map_or(String::new(), |_| format!(" used {}", reported.used));
+                let (taken, split, pinned) = (reported.taken, reported.split, reported.pinned);
+                format!("taken {taken} split {split} pinned {pinned} back {} dropped {}{used}", reported.back, reported.dropped)
             }
             Call::Take(n) => {
                 let taken = ask!(node, take, caller, n)?;
@@ -333,22 +333,22 @@ impl Place {
                 }
             }
             _ => {
-                let told = ask!(node, put_back, caller)?;
+                let reported = ask!(node, put_back, caller)?;
                 self.open = None;
-                format!("back {} dropped {}", told.back, told.dropped)
+                format!("back {} dropped {}", reported.back, reported.dropped)
             }
         })
     }
 
     /// The lines of the report of totals.
     fn totals(&mut self, number: usize) -> String {
-        let told = self.node.node().stats();
-        let mut lines = format!("node {number}\npages {}\nqueue {}\n", told.allocations, told.queued);
-        lines += &format!("frames_held {}\nframes_given {}\n", told.frames_held, told.frames_given);
-        lines += &format!("thp_split_page {}\nthp_split_page_failed {}\n", told.split_page, told.split_page_failed);
-        lines += &format!("thp_deferred_split_page {}\nthp_split_pmd {}\n", told.deferred_split_page, told.split_pmd);
+        let reported = self.node.node().stats();
+        let mut lines = format!("node {number}\npages {}\nqueue {}\n", reported.allocations, reported.queued);
+        lines += &format!("frames_held {}\nframes_given {}\n", reported.frames_held, reported.frames_given);
+        lines += &format!("thp_split_page {}\nthp_split_page_failed {}\n", reported.split_page, reported.split_page_failed);
+        lines += &format!("thp_deferred_split_page {}\nthp_split_pmd {}\n", reported.deferred_split_page, reported.split_pmd);
         if self.shape.underused.is_some() {
-            lines += &format!("thp_underused_split_page {}\n", told.underused_split_page);
+            lines += &format!("thp_underused_split_page {}\n", reported.underused_split_page);
         }
         lines
     }
@@ -463,7 +463,7 @@ impl Sequence {
     }
 }
 
-/// A journal with a line left out, twice there, or of another place: of it, and of its front, the two checks are to tell the same.
+/// A journal with a line left out, twice there, or of another place: of it, and of its front, the two checks must report the same.
 fn differing_in_parts(chance: &mut Chance, journal: &[u8]) -> Option<String> {
     let lines: Vec<&[u8]> = journal.split_inclusive(|&byte| byte == b'\n').collect();
     let (at, other) = (chance.next() as usize % lines.len(), chance.next() as usize % lines.len());
@@ -485,11 +485,11 @@ fn differing_in_parts(chance: &mut Chance, journal: &[u8]) -> Option<String> {
     }
     let (one, other) = (by_parts.finish(), check(text));
     let reason = by_parts.reason();
-    let is_told = match one {
+    let is_reported = match one {
         Ok(Verdict::Illegal { line }) => reason.as_ref().is_ok_and(|text| text.starts_with(&format!("line {line}: "))),
         _ => reason == Err(Fault::NoReason),
     };
-    (one != other || !is_told)
+    (one != other || !is_reported)
         .then(|| format!("{one:?} in place of {other:?}, and {reason:?}, of {:?}", String::from_utf8_lossy(text)))
 }
 

@@ -19,7 +19,7 @@ const ROUNDS: usize = 250;
 const EVENTS: usize = 5;
 const LONG: usize = 300_000;
 
-// this thread's processor time, in nanoseconds: what the system tells of the clock that calls.c asks
+// this thread's processor time, in nanoseconds: what the system reports of the clock that calls.c reads
 fn now() -> f64 {
     #[repr(C)]
     struct Time {

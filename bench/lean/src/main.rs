@@ -1,5 +1,5 @@
 //! The totals of a script, and nothing else: commands are done as they are read, by one thread, on counts kept as bit planes. No
-//! journal, no answers, no limits, no refusals told, no faults but a crash.
+//! journal, no answers, no limits, no refusals reported, no faults but a crash.
 //!
 //!     lean [--nodes N] [--blocks N] < script
 mod node;
@@ -32,8 +32,8 @@ fn main() -> Result<()> {
         part.copy_within(lines..end, 0);
         begun = end - lines;
     }
-    let told: String = nodes.iter().enumerate().map(|(number, node)| node.totals(number)).collect();
-    stdout().write_all(told.as_bytes())
+    let reported: String = nodes.iter().enumerate().map(|(number, node)| node.totals(number)).collect();
+    stdout().write_all(reported.as_bytes())
 }
 
 /// The number behind a word of the command line.

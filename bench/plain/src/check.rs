@@ -38,7 +38,7 @@ pub fn first_illegal(text: &[u8]) -> Result<Option<usize>, TextFault> {
     if ended { Ok(illegal) } else { Err(TextFault { line: lines + 1, kind: Kind::Cut }) }
 }
 
-// does what an event tells of, and answers whether that is what happens
+// does what an event reports, and returns whether that is what happens
 fn is_replayed(node: &mut Node, event: &Event) -> bool {
     let c = event.caller;
     match event.what {
@@ -132,7 +132,7 @@ fn event_of(caller: &[u8], mut words: Words, version: u32) -> Result<Event, Kind
         b"used" if version > 2 => of_page(words, |page| What::Used { page }),
         _ => Err(Kind::BadWord),
     };
-    // a caller that is no number is told before a set that is none
+    // a caller that is no number is reported before a set that is none
     let caller = match what {
         Ok(_) | Err(Kind::BadSet) => small_number(caller, 63)?,
         Err(kind) => return Err(kind),

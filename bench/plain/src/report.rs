@@ -95,7 +95,7 @@ pub fn journals(nodes: &[Node]) -> Vec<u8> {
     text
 }
 
-// the least version that can tell these nodes
+// the least version that can report these nodes
 fn version_of(nodes: &[Node]) -> u64 {
     let is_filling = |event: &Event| matches!(event.what, What::Write { .. } | What::Zero { .. });
     let needs_3 = |node: &Node| node.shape.underused.is_some() || node.journal.iter().any(is_filling);

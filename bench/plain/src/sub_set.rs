@@ -69,7 +69,7 @@ impl SubSet {
     }
 }
 
-// bit i tells whether count i is 0; most parts are all alike, which vectors tell
+// bit i shows whether count i is 0; most parts are all alike, which vectors find
 fn bits_of_zeros(counts: &[u16]) -> u64 {
     let zeros = counts.iter().map(|&count| u16::from(count == 0)).sum::<u16>();
     if zeros == 0 {

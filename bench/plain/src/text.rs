@@ -20,7 +20,7 @@ impl<'a> Iterator for Words<'a> {
     }
 }
 
-/// The kinds of fault of a line, in the order in which they are told.
+/// The kinds of fault of a line, in the order in which they are reported.
 #[derive(Clone, Copy, PartialEq, Eq, Debug)]
 pub enum Kind {
     TooLong,
@@ -65,11 +65,11 @@ pub fn read_lines(
     let mut number = 0;
     for line in text.split_inclusive(|&byte| byte == b'\n') {
         number += 1;
-        let told = match line.split_last() {
+        let reported = match line.split_last() {
             Some((b'\n', line)) => read(number, line).map_err(|kind| fault_of(line, kind)),
             _ => Err(fault_of(line, Kind::Cut)),
         };
-        told.map_err(|kind| TextFault { line: number, kind })?;
+        reported.map_err(|kind| TextFault { line: number, kind })?;
     }
     Ok(number)
 }

@@ -2,7 +2,7 @@
 use Rattle.std.proofs.Common.{◌≡◌, ◌≢◌, ℕ, ◌+◌, ◌<◌, List, [], ◌∷◌, ◌++◌, Contains, subst, sym, inl, inr, arith}
 use Rattle.std.proofs.lemmas.Bool.{cases_eq}
 use Rattle.std.proofs.lemmas.List.Elements.{Contains-append_left, Contains-push, Contains-push_cases}
-use Rattle.thp_links.specs.Prelude.{without}
+use Rattle.thp_links.specs.Prelude.{without_index}
 use Rattle.thp_links.proofs.Members.{Contains-without}
 
 -- after a push of n to blocks below n all are below n + 1
@@ -24,6 +24,6 @@ pub all_more : (n : ℕ) (xs ys : List ℕ) → ys ≡ xs ++ n ∷ [] → ((j : 
 all_more n xs ys is all j less = there n xs ys j is (λ ne. all j (omega (arith, ne)))
 
 -- a block that is taken out and pushed leaves the same blocks there
-pub all_again : (n i : ℕ) (xs ys zs : List ℕ) → ys ≡ without i xs → zs ≡ ys ++ i ∷ [] → ((j : ℕ) → j < n → Contains xs j) → (j : ℕ) → j < n → Contains zs j
+pub all_again : (n i : ℕ) (xs ys zs : List ℕ) → ys ≡ without_index i xs → zs ≡ ys ++ i ∷ [] → ((j : ℕ) → j < n → Contains xs j) → (j : ℕ) → j < n → Contains zs j
 all_again n i xs ys zs out back all j less =
     there i ys zs j back (λ ne. subst (λ (ws : List ℕ). Contains ws j) (sym out) (Contains-without i xs j (all j less) ne))

@@ -34,7 +34,7 @@ pub(crate) fn time_all<R: Clock + CpuClock + Eprint + AllocGlobal + Threads + Sy
 fn time_bare<R: Clock + Eprint + AllocGlobal>(rt: &R, rounds: u32) -> Result<()> {
     let start = Instant::now(rt)?;
     let tally = bare_rounds(rt.alloc(), rounds).context("memory for a node")?;
-    tell(rt, "a bare node", start, tally)
+    report(rt, "a bare node", start, tally)
 }
 
 // So many threads on one cell.
@@ -61,7 +61,7 @@ fn time_threads<R: Clock + Eprint + Threads + Sync>(
 {
     let start = Instant::now(rt)?;
     let (_pass, tally) = threads::all_on_one(rt, cell, pass, rounds);
-    tell(rt, what, start, tally)
+    report(rt, what, start, tally)
 }
 
 // Two and four threads with a cell each.
@@ -71,15 +71,15 @@ fn time_cell_each<R: Clock + Eprint + AllocGlobal + Threads + Sync>(
 ) -> Result<()> {
     let start = Instant::now(rt)?;
     let tally = threads::two_apart(rt, rt.alloc(), rounds);
-    tell(rt, "two threads, a cell each", start, tally)?;
+    report(rt, "two threads, a cell each", start, tally)?;
 
     let start = Instant::now(rt)?;
     let tally = threads::four_apart(rt, rt.alloc(), rounds);
-    tell(rt, "four threads, a cell each", start, tally)
+    report(rt, "four threads, a cell each", start, tally)
 }
 
 // Prints the number of successful calls per second, and the number of those that found the node busy, on standard error.
-fn tell<R: Clock + Eprint, D: Display + Drop>(
+fn report<R: Clock + Eprint, D: Display + Drop>(
     rt: &R,
     what: D,
     start: Instant,

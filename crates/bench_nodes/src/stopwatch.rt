@@ -19,7 +19,7 @@ impl Stopwatch {
     }
 
     /// Prints the nanoseconds per round on standard error, with the sum of the results.
-    pub(crate) fn tell<R: CpuClock + Eprint, D: Display + Drop>(
+    pub(crate) fn report<R: CpuClock + Eprint, D: Display + Drop>(
         &self,
         rt: &R,
         what: D,
@@ -27,12 +27,12 @@ impl Stopwatch {
         sum: u64,
     ) -> Result<()> {
         let spent = rt.thread_cpu_time()?.saturating_sub(self.start);
-        tell_nanos(rt, what, rounds, spent.as_nanos(), sum)
+        report_nanos(rt, what, rounds, spent.as_nanos(), sum)
     }
 }
 
 /// Prints the nanoseconds per round on standard error, given the total, with the sum of the results.
-pub(crate) fn tell_nanos<R: Eprint, D: Display + Drop>(
+pub(crate) fn report_nanos<R: Eprint, D: Display + Drop>(
     rt: &R,
     what: D,
     rounds: u32,

@@ -19,14 +19,14 @@ const COUNTS: [u32; 3] = [1, 64, 512];
 /// Prints the bytes of an event and of a page, and the times of `rounds` rounds, each with a sum of the calls' results, so that
 /// no call can be optimised out.
 pub(crate) fn time_all<R: CpuClock + Eprint + AllocGlobal>(rt: &R, rounds: u32) -> Result<()> {
-    tell_sizes(rt)?;
+    report_sizes(rt)?;
     time_tables(rt, rounds)?;
     time_pages(rt, rounds)?;
     node_calls::time_rounds(rt, rounds)
 }
 
 // The bytes that a journal stores per event, and a node per page.
-fn tell_sizes<R: Eprint>(rt: &R) -> Result<()> {
+fn report_sizes<R: Eprint>(rt: &R) -> Result<()> {
     let (event, what) = (size_of::<Event>(), size_of::<What>());
     eprintln!(rt; "Event: {event} bytes, of which What: {what} bytes")?;
     let page = size_of::<Page>();

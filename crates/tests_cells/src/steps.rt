@@ -78,7 +78,7 @@ pub(crate) enum Step {
     Return,
 }
 
-fn told<T>(reply: Result<T, CellFault>) -> Option<Result<T, Refusal>> {
+fn result_unless_busy<T>(reply: Result<T, CellFault>) -> Option<Result<T, Refusal>> {
     match reply {
         Ok(reply) => Some(Ok(reply)),
         Err(CellFault::Refused(refusal)) => Some(Err(refusal)),
@@ -88,18 +88,18 @@ fn told<T>(reply: Result<T, CellFault>) -> Option<Result<T, Refusal>> {
 
 // The answers of the node; none if it was busy.
 fn page_of(reply: Result<PageId, CellFault>) -> Option<Answer> {
-    match told(reply)? {
+    match result_unless_busy(reply)? {
         Ok(PageId(page)) => Some(Answer::Page(page)),
         Err(refusal) => Some(Answer::Refused(refusal)),
     }
 }
 
 fn done_of(reply: Result<(), CellFault>) -> Option<Answer> {
-    Some(done(told(reply)?))
+    Some(done(result_unless_busy(reply)?))
 }
 
 fn outcome_of(reply: Result<Done, CellFault>) -> Option<Answer> {
-    Some(outcome(told(reply)?))
+    Some(outcome(result_unless_busy(reply)?))
 }
 
 // The answer to a call; none if the node was busy.

@@ -1,6 +1,6 @@
 //! Lists in a table of pairs, with expected values written out, and two lists in one table.
 ghost use Rattle.std.specs.Prelude.{◌≡◌, ◌+◌, ◌≤◌, ⊤, [], ◌∷◌, ◌++◌, length, slice_get, vec_len, Contains, IfOk, IfSome};
-ghost use Rattle.thp_links.specs.Prelude.{Apart, without, Stands, ChainStands};
+ghost use Rattle.thp_links.specs.Prelude.{Apart, without_index, Stands, ChainStands};
 
 use crate::counting::calls_counted;
 use crate::equal::expect_equal;
@@ -140,7 +140,7 @@ fn release<T: LinkTable>(table: &mut T, free: &mut FreeChain, queue: &mut Queue,
     requires free_stands { ChainStands free.old (T.links table.old) }
     requires apart { Apart queue.old free.old }
     requires queued { Contains queue.old i }
-    ensures queue { queue.new ≡ without i queue.old }
+    ensures queue { queue.new ≡ without_index i queue.old }
     ensures free { free.new ≡ i ∷ free.old }
     ensures queue_stands { Stands queue.new (T.links table.new) }
     ensures free_stands { ChainStands free.new (T.links table.new) }

@@ -96,13 +96,13 @@ fn worth_a_split(rt: HostRuntime) {
 
 // Whether a page is worth a split with the switch off, and at the thresholds 0, 1 and 3.
 fn expect_worth(rt: &impl Abort, page: &Page, wants: [bool; 4]) {
-    let told = [
+    let reported = [
         page.is_split_candidate(None),
         page.is_split_candidate(Some(0)),
         page.is_split_candidate(Some(1)),
         page.is_split_candidate(Some(3)),
     ];
-    expect_equal(rt, told, wants);
+    expect_equal(rt, reported, wants);
 }
 
 // A split gives back unused and zero-filled subpages; the mappings of the latter remain, and their unmaps give nothing back.

@@ -42,7 +42,7 @@ fn two_million_pages(rt: HostRuntime) {
 }
 
 /// A page in each of 4,096 blocks, by a caller of its own, far beyond those that a node has, and one page more.
-fn is_full_history_told(alloc: Global) -> Option<bool> {
+fn is_full_history_reported(alloc: Global) -> Option<bool> {
     let mut events = Vec::new(alloc);
     for number in 0..4_097u32 {
         let what = What::Alloc {
@@ -64,7 +64,7 @@ fn is_full_history_told(alloc: Global) -> Option<bool> {
 
 #[test]
 fn a_full_history_of_many_callers(rt: HostRuntime) {
-    assert!(rt; is_full_history_told(rt.alloc()) == Some(true));
+    assert!(rt; is_full_history_reported(rt.alloc()) == Some(true));
 }
 
 /// More blocks than a node may have: the checks take a node of any number of blocks.
@@ -86,7 +86,7 @@ fn allocation(number: u32) -> Event {
 }
 
 /// Whether the check refuses one page more than there are blocks.
-fn is_full_history_of_many_blocks_told(alloc: Global) -> Option<bool> {
+fn is_full_history_of_many_blocks_reported(alloc: Global) -> Option<bool> {
     let mut events = Vec::new(alloc);
     for number in 0..70_001u32 {
         events.push(allocation(number)).ok()?;
@@ -97,7 +97,7 @@ fn is_full_history_of_many_blocks_told(alloc: Global) -> Option<bool> {
 
 #[test]
 fn a_check_of_many_blocks(rt: HostRuntime) {
-    assert!(rt; is_full_history_of_many_blocks_told(rt.alloc()) == Some(true));
+    assert!(rt; is_full_history_of_many_blocks_reported(rt.alloc()) == Some(true));
 }
 
 /// Whether a replay admits as many pages as there are blocks.

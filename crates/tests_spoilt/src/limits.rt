@@ -19,14 +19,14 @@ fn stops<T: Threads + Sync>(
 ) -> bool {
     let source = Source::new(b"", usize::MAX, Manner::by(step));
     let passed = pass(rt, alloc, settings, source, LARGE);
-    let is_told = matches!(
+    let is_reported = matches!(
         passed.ended,
         Err(RunFault::Text {
             line: 0,
             kind: TextKind::TooLong
         })
     );
-    is_told
+    is_reported
         && passed.held.is_empty()
         && passed.given > MAX_INPUT
         && passed.given <= MAX_INPUT.saturating_add(ROOM.min(step))

@@ -67,7 +67,7 @@ fn end_of<T: Threads + Sync>(
     task: &Task,
     reads: Manner,
     writes: Manner,
-    tells: Manner,
+    reports: Manner,
 ) -> Option<Ended> {
     let mut words = Vec::new(alloc);
     for word in ["thpsplit", task.word] {
@@ -75,7 +75,7 @@ fn end_of<T: Threads + Sync>(
     }
     let mut reader = Watched::new(Source::new(task.input, 0, reads));
     let mut output = Watched::new(Sink::new(alloc, writes));
-    let mut errors = Watched::new(Sink::new(alloc, tells));
+    let mut errors = Watched::new(Sink::new(alloc, reports));
     let status = run_program(rt, alloc, Ok(words), &mut reader, &mut output, &mut errors);
     let source = reader.into_inner();
     let output = output.into_inner();
@@ -89,8 +89,8 @@ fn end_of<T: Threads + Sync>(
 }
 
 /// Whether the program ended with this status and these messages, after this many bytes of output.
-fn has_ended(ended: &Ended, status: u8, told: &[u8], written: usize) -> bool {
-    ended.status == status && ended.errors.as_slice() == told && ended.output.len() == written
+fn has_ended(ended: &Ended, status: u8, reported: &[u8], written: usize) -> bool {
+    ended.status == status && ended.errors.as_slice() == reported && ended.output.len() == written
 }
 
 const FAILS: Mishap = Mishap::Fails(ErrorKind::Other);
@@ -114,8 +114,8 @@ fn fail_writes<T: Threads + Sync>(rt: &T, alloc: Global, task: &Task) -> Option<
     for call in 0..all {
         let writes = Manner::with(1, call, FAILS);
         let ended = end_of(rt, alloc, task, LARGE, writes, LARGE)?;
-        let told = b"thpsplit: write failed\n".as_slice();
-        if !has_ended(&ended, 3, told, call as usize) {
+        let reported = b"thpsplit: write failed\n".as_slice();
+        if !has_ended(&ended, 3, reported, call as usize) {
             return None;
         }
     }
@@ -124,12 +124,17 @@ fn fail_writes<T: Threads + Sync>(rt: &T, alloc: Global, task: &Task) -> Option<
 
 /// Makes each write to standard error fail in turn, which does not change the exit status; returns the number of cases, or `None`
 /// if one ends wrong.
-fn fail_tells<T: Threads + Sync>(rt: &T, alloc: Global, task: &Task, told: &[u8]) -> Option<u32> {
+fn fail_reports<T: Threads + Sync>(
+    rt: &T,
+    alloc: Global,
+    task: &Task,
+    reported: &[u8],
+) -> Option<u32> {
     let mut tried = 0u32;
-    for count in 0..=told.len() {
-        let tells = Manner::with(1, tried, FAILS);
-        let ended = end_of(rt, alloc, task, LARGE, LARGE, tells)?;
-        if !has_ended(&ended, 2, &told[..count], 0) {
+    for count in 0..=reported.len() {
+        let reports = Manner::with(1, tried, FAILS);
+        let ended = end_of(rt, alloc, task, LARGE, LARGE, reports)?;
+        if !has_ended(&ended, 2, &reported[..count], 0) {
             return None;
         }
         tried = tried.saturating_add(1);
@@ -155,15 +160,15 @@ fn failing_devices(rt: HostRuntime) {
 
 /// Makes each write to standard error fail in turn for each text with an error; returns the number of cases, or `None` if one
 /// ends wrong.
-fn fail_all_tells<T: Threads + Sync>(rt: &T, alloc: Global) -> Option<u32> {
+fn fail_all_reports<T: Threads + Sync>(rt: &T, alloc: Global) -> Option<u32> {
     let mut tried = 0u32;
-    for (task, told) in &FAULTY {
-        tried = tried.saturating_add(fail_tells(rt, alloc, task, told)?);
+    for (task, reported) in &FAULTY {
+        tried = tried.saturating_add(fail_reports(rt, alloc, task, reported)?);
     }
     Some(tried)
 }
 
 #[test]
 fn failing_standard_error(rt: HostRuntime) {
-    assert!(rt; fail_all_tells(&rt, rt.alloc()) == Some(51));
+    assert!(rt; fail_all_reports(&rt, rt.alloc()) == Some(51));
 }

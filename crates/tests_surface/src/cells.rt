@@ -112,8 +112,8 @@ fn expect_calls(rt: &impl Abort, cell: &NodeCell, pass: &mut Pass)
     requires caller { HasCaller pass.old 1 }
     ensures { pass.new ≡ at_front pass.old pass.new.front }
 {
-    let told = called(cell, pass);
-    expect_equal(rt, told, Ok((PageId(0), 1, Tried::Split(PageId(0)))));
+    let reported = called(cell, pass);
+    expect_equal(rt, reported, Ok((PageId(0), 1, Tried::Split(PageId(0)))));
     expect_equal(rt, pass.callers(), (1, 2));
 }
 

@@ -53,7 +53,7 @@ fn shrunk(node: &mut Node) -> Result<(Tried, BackReply, ScanReply), Refusal> {
 }
 
 // Whether the node shows what happened on it.
-fn is_told(node: &Node) -> bool {
+fn is_reported(node: &Node) -> bool {
     let counters: Counters = node.counters();
     let frames = node.frames_held().saturating_add(node.frames_given());
     let lists = node.queue().len() == 0 && node.queue_len() == 0;
@@ -76,7 +76,7 @@ fn is_passed(node: &mut Node) -> bool {
                 },
                 scanned,
             ),
-        ) => scanned.taken == 0 && is_told(node) && !node.journal().is_empty(),
+        ) => scanned.taken == 0 && is_reported(node) && !node.journal().is_empty(),
         _ => false,
     }
 }

@@ -184,8 +184,8 @@ fn settings_and_scripts(rt: HostRuntime) {
     let read = is_read(alloc);
     let script = is_script(alloc, &settings);
     let fault = is_faulty(alloc, &settings);
-    let told = is_run(&rt, alloc, &settings);
-    assert!(rt; read && script && fault && told && has_operands());
+    let reported = is_run(&rt, alloc, &settings);
+    assert!(rt; read && script && fault && reported && has_operands());
     assert!(rt; line_of(&RunFault::Read).is_none());
 }
 

@@ -1,6 +1,6 @@
 //! A section of a holder of callers, and the report of its answers.
 ghost use Rattle.std.specs.Prelude.{◌<◌, ◌^◌, All, length};
-ghost use Rattle.thp_run.specs.Prelude.{Fronts, HasNoBatch, HoldsCaller, IsCommandFor, WorksOn};
+ghost use Rattle.thp_run.specs.Prelude.{Fronts, HasNoBatch, HoldsCaller, IsWorkFor, WorksOn};
 
 use crate::equal::expect_equal;
 use std::alloc::{AllocError, Global};
@@ -19,7 +19,7 @@ pub fn worked_by<S: Steps>(
 ) -> Result<Worked, AllocError>
     requires caller { HoldsCaller (S.fronts steps.old) 1 }
     requires few { length commands.now < 2 ^ 32 }
-    requires commands { All (IsCommandFor (S.fronts steps.old).nodes) commands.now }
+    requires commands { All (IsWorkFor (S.fronts steps.old).nodes) commands.now }
     requires shut { HasNoBatch 1 (S.fronts steps.old) }
 {
     work(alloc, commands, 1, steps, &NoGate)
@@ -34,7 +34,7 @@ pub fn rest_by<S: Steps>(
 ) -> Result<Worked, AllocError>
     requires caller { HoldsCaller (S.fronts steps.old) 1 }
     requires few { length commands.now < 2 ^ 32 }
-    requires commands { All (IsCommandFor (S.fronts steps.old).nodes) commands.now }
+    requires commands { All (IsWorkFor (S.fronts steps.old).nodes) commands.now }
     requires worked { (old : Fronts) × WorksOn 1 old (S.fronts steps.old) commands.now worked }
 {
     work_rest(alloc, commands, 1, worked, steps)

@@ -1,6 +1,6 @@
 //! The check of journals, exported: of a whole text, and of a text that arrives in parts.
 ghost use Rattle.std.specs.Prelude.{◌≡◌};
-ghost use Rattle.thp_capi.specs.Prelude.{CheckAnswer, CheckEnds, CheckMade, CheckReads, CheckTells, Emptied, Reports, ReportsText, numbers_of, value_of};
+ghost use Rattle.thp_capi.specs.Prelude.{CheckAnswer, CheckMade, CheckReads, CheckReports, Emptied, LongCheckEnds, Reports, ReportsText, code_and_line, value_of};
 
 use std::alloc::Global;
 use thp_capi::{
@@ -12,7 +12,7 @@ use thp_capi::{
 /// kind in the text, and 11 if memory can't be allocated. `line` is the line of the first illegal event or error, otherwise 0.
 #[unsafe(no_mangle)]
 pub extern "C" fn thp_c_check_text(alloc: Global, text: &[u8], line: &mut u32) -> u32
-    ensures { (answer : CheckAnswer) × ReportsText text.now answer × ((result, line.new) ≡ numbers_of answer) }
+    ensures { (answer : CheckAnswer) × ReportsText text.now answer × ((result, line.new) ≡ code_and_line answer) }
 {
     thp_capi::check_text(alloc, text, line)
 }
@@ -65,7 +65,7 @@ pub extern "C" fn thp_c_check_read(handle: &mut ThpCheck, alloc: Global, part: &
 /// for an error of that kind in the text. `line` is the line of the first illegal event or error, otherwise 0.
 #[unsafe(no_mangle)]
 pub extern "C" fn thp_c_check_finish(handle: &mut ThpCheck, alloc: Global, line: &mut u64) -> u32
-    ensures { CheckEnds (value_of handle.old.held) (value_of handle.new.held) result line.old line.new }
+    ensures { LongCheckEnds (value_of handle.old.held) (value_of handle.new.held) result line.old line.new }
 {
     let Ok((room, stage)) = handle.take(alloc) else {
         return 12;
@@ -86,7 +86,7 @@ pub extern "C" fn thp_c_check_reason(
     buffer: &mut [u8],
     size: &mut usize,
 ) -> u32
-    ensures { Reports result (CheckTells (value_of handle.old.held) (value_of handle.new.held) buffer.old buffer.new size.old size.new) }
+    ensures { Reports result (CheckReports (value_of handle.old.held) (value_of handle.new.held) buffer.old buffer.new size.old size.new) }
 {
     let (room, stage) = attempt!(handle.take(alloc));
     let text = reason_text(alloc, &stage);

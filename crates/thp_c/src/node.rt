@@ -2,7 +2,7 @@
 ghost use Rattle.std.specs.Prelude.{◌≡◌, ◌∷◌, [], Ok, Err, OnErr, length};
 ghost use Rattle.thp_history.specs.Prelude.{queue};
 ghost use Rattle.thp_history.specs.Refusals as call;
-ghost use Rattle.thp_capi.specs.Prelude.{AbandonCall, AllocCall, BackCall, Does, DoesIfKept, Emptied, Made, MapcountCall, NextCall, OneCall, PageCall, QueueCall, Reports, ReserveCall, Returns, ScanCall, TakeCall, Written, answer_of, shape_of, stats_of};
+ghost use Rattle.thp_capi.specs.Prelude.{AbandonCall, AllocCall, BackCall, DoesIfKept, DoesOnHandle, Emptied, MadeNode, MapcountCall, NextCall, OneCall, PageCall, QueueCall, Reports, ReserveCall, Returns, ScanCall, TakeCall, Written, answer_of_code, shape_with, stats_of};
 ghost use Rattle.thp_journal_writer.specs.Prelude.{journal_text};
 
 use std::alloc::Global;
@@ -23,7 +23,7 @@ pub extern "C" fn thp_c_node_create(
     underused: u32,
     counting: bool,
 ) -> u32
-    ensures { Reports result (Made handle.old.held handle.new.held (shape_of blocks order underused) counting) }
+    ensures { Reports result (MadeNode handle.old.held handle.new.held (shape_with blocks order underused) counting) }
 {
     if let Ok(engine) = handle.take(alloc) {
         handle.store(engine);
@@ -59,7 +59,7 @@ pub extern "C" fn thp_c_node_alloc(
 /// Closes the node: no page is queued or allocated afterwards.
 #[unsafe(no_mangle)]
 pub extern "C" fn thp_c_node_close(handle: &mut ThpNode, alloc: Global, caller: u32) -> u32
-    ensures { Reports result (Does handle.old.held handle.new.held (OneCall caller call.close What.Close)) }
+    ensures { Reports result (DoesOnHandle handle.old.held handle.new.held (OneCall caller call.close What.Close)) }
 {
     code(on_node!(handle, alloc, engine => engine.close(caller)))
 }
@@ -122,7 +122,7 @@ pub extern "C" fn thp_c_node_put_back(
 /// Discards the caller's open batch: its pages stay in the caller's flight, out of the queue.
 #[unsafe(no_mangle)]
 pub extern "C" fn thp_c_node_abandon(handle: &mut ThpNode, alloc: Global, caller: u32) -> u32
-    ensures { Reports result (Does handle.old.held handle.new.held (AbandonCall caller)) }
+    ensures { Reports result (DoesOnHandle handle.old.held handle.new.held (AbandonCall caller)) }
 {
     code(on_node!(handle, alloc, engine => engine.abandon(caller)))
 }
@@ -131,7 +131,7 @@ pub extern "C" fn thp_c_node_abandon(handle: &mut ThpNode, alloc: Global, caller
 /// needs three events for each page that it takes.
 #[unsafe(no_mangle)]
 pub extern "C" fn thp_c_node_reserve(handle: &mut ThpNode, alloc: Global, events: u32) -> u32
-    ensures { Reports result (Does handle.old.held handle.new.held (ReserveCall events)) }
+    ensures { Reports result (DoesOnHandle handle.old.held handle.new.held (ReserveCall events)) }
 {
     code(on_node!(handle, alloc, engine => engine.reserve(events)))
 }
@@ -211,8 +211,8 @@ pub extern "C" fn thp_c_node_queue(
     count: &mut u32,
 ) -> u32
     ensures does { Reports result (DoesIfKept handle.old.held handle.new.held (QueueCall pages.old pages.new count.new) (λ old new answer. (new ≡ old) × (answer ≡ Err Fault.NoJournal))) }
-    ensures kept_pages { OnErr (answer_of result) (pages.new ≡ pages.old) }
-    ensures kept_count { OnErr (answer_of result) (count.new ≡ count.old) }
+    ensures kept_pages { OnErr (answer_of_code result) (pages.new ≡ pages.old) }
+    ensures kept_count { OnErr (answer_of_code result) (count.new ≡ count.old) }
 {
     let engine = attempt!(handle.take(alloc));
     let length = match &*engine {

@@ -1,6 +1,6 @@
 //! The calls about one page, exported: of a node, and of a pass of a shared node.
 ghost use Rattle.thp_history.specs.Refusals as call;
-ghost use Rattle.thp_capi.specs.Prelude.{Does, LoseCall, OneCall, PassLost, PassOne, Reports, Returns, value_of};
+ghost use Rattle.thp_capi.specs.Prelude.{DoesOnHandle, LoseCall, OneCall, PassLost, PassOne, Reports, Returns, value_of};
 
 use std::alloc::Global;
 use thp_capi::{ThpDone, ThpNode, ThpPass, code, on_node, on_pass};
@@ -14,7 +14,7 @@ pub extern "C" fn thp_c_node_map_whole(
     caller: u32,
     page: u64,
 ) -> u32
-    ensures { Reports result (Does handle.old.held handle.new.held (OneCall caller (call.map_whole page) (What.MapWhole page))) }
+    ensures { Reports result (DoesOnHandle handle.old.held handle.new.held (OneCall caller (call.map_whole page) (What.MapWhole page))) }
 {
     code(on_node!(handle, alloc, engine => engine.gain(caller, PageId(page), Gain::MapWhole)))
 }
@@ -29,7 +29,7 @@ pub extern "C" fn thp_c_node_map_sub(
     first: u32,
     count: u32,
 ) -> u32
-    ensures { Reports result (Does handle.old.held handle.new.held (OneCall caller (call.map_sub page first count) (What.MapSub page first count))) }
+    ensures { Reports result (DoesOnHandle handle.old.held handle.new.held (OneCall caller (call.map_sub page first count) (What.MapSub page first count))) }
 {
     let gain = Gain::MapSub { first, count };
     code(on_node!(handle, alloc, engine => engine.gain(caller, PageId(page), gain)))
@@ -43,7 +43,7 @@ pub extern "C" fn thp_c_node_split_pmd(
     caller: u32,
     page: u64,
 ) -> u32
-    ensures { Reports result (Does handle.old.held handle.new.held (OneCall caller (call.split_pmd page) (What.SplitPmd page))) }
+    ensures { Reports result (DoesOnHandle handle.old.held handle.new.held (OneCall caller (call.split_pmd page) (What.SplitPmd page))) }
 {
     code(on_node!(handle, alloc, engine => engine.gain(caller, PageId(page), Gain::SplitPmd)))
 }
@@ -51,7 +51,7 @@ pub extern "C" fn thp_c_node_split_pmd(
 /// Adds a pin to the page.
 #[unsafe(no_mangle)]
 pub extern "C" fn thp_c_node_pin(handle: &mut ThpNode, alloc: Global, caller: u32, page: u64) -> u32
-    ensures { Reports result (Does handle.old.held handle.new.held (OneCall caller (call.pin page) (What.Pin page))) }
+    ensures { Reports result (DoesOnHandle handle.old.held handle.new.held (OneCall caller (call.pin page) (What.Pin page))) }
 {
     code(on_node!(handle, alloc, engine => engine.gain(caller, PageId(page), Gain::Pin)))
 }
@@ -66,7 +66,7 @@ pub extern "C" fn thp_c_node_write(
     first: u32,
     count: u32,
 ) -> u32
-    ensures { Reports result (Does handle.old.held handle.new.held (OneCall caller (call.write page first count) (What.Write page first count))) }
+    ensures { Reports result (DoesOnHandle handle.old.held handle.new.held (OneCall caller (call.write page first count) (What.Write page first count))) }
 {
     let gain = Gain::Write { first, count };
     code(on_node!(handle, alloc, engine => engine.gain(caller, PageId(page), gain)))
@@ -82,7 +82,7 @@ pub extern "C" fn thp_c_node_zero(
     first: u32,
     count: u32,
 ) -> u32
-    ensures { Reports result (Does handle.old.held handle.new.held (OneCall caller (call.zero_fill page first count) (What.Zero page first count))) }
+    ensures { Reports result (DoesOnHandle handle.old.held handle.new.held (OneCall caller (call.zero_fill page first count) (What.Zero page first count))) }
 {
     let gain = Gain::Zero { first, count };
     code(on_node!(handle, alloc, engine => engine.gain(caller, PageId(page), gain)))
@@ -141,7 +141,7 @@ pub extern "C" fn thp_c_pass_map_whole(
     caller: u32,
     page: u64,
 ) -> u32
-    ensures { Reports result (Does (value_of handle.old.held) (value_of handle.new.held) (PassOne caller (call.map_whole page) (What.MapWhole page))) }
+    ensures { Reports result (DoesOnHandle (value_of handle.old.held) (value_of handle.new.held) (PassOne caller (call.map_whole page) (What.MapWhole page))) }
 {
     code(on_pass!(handle, alloc, pass => pass.gain(caller, PageId(page), Gain::MapWhole)))
 }
@@ -156,7 +156,7 @@ pub extern "C" fn thp_c_pass_map_sub(
     first: u32,
     count: u32,
 ) -> u32
-    ensures { Reports result (Does (value_of handle.old.held) (value_of handle.new.held) (PassOne caller (call.map_sub page first count) (What.MapSub page first count))) }
+    ensures { Reports result (DoesOnHandle (value_of handle.old.held) (value_of handle.new.held) (PassOne caller (call.map_sub page first count) (What.MapSub page first count))) }
 {
     let gain = Gain::MapSub { first, count };
     code(on_pass!(handle, alloc, pass => pass.gain(caller, PageId(page), gain)))
@@ -170,7 +170,7 @@ pub extern "C" fn thp_c_pass_split_pmd(
     caller: u32,
     page: u64,
 ) -> u32
-    ensures { Reports result (Does (value_of handle.old.held) (value_of handle.new.held) (PassOne caller (call.split_pmd page) (What.SplitPmd page))) }
+    ensures { Reports result (DoesOnHandle (value_of handle.old.held) (value_of handle.new.held) (PassOne caller (call.split_pmd page) (What.SplitPmd page))) }
 {
     code(on_pass!(handle, alloc, pass => pass.gain(caller, PageId(page), Gain::SplitPmd)))
 }
@@ -178,7 +178,7 @@ pub extern "C" fn thp_c_pass_split_pmd(
 /// Adds a pin to the page.
 #[unsafe(no_mangle)]
 pub extern "C" fn thp_c_pass_pin(handle: &mut ThpPass, alloc: Global, caller: u32, page: u64) -> u32
-    ensures { Reports result (Does (value_of handle.old.held) (value_of handle.new.held) (PassOne caller (call.pin page) (What.Pin page))) }
+    ensures { Reports result (DoesOnHandle (value_of handle.old.held) (value_of handle.new.held) (PassOne caller (call.pin page) (What.Pin page))) }
 {
     code(on_pass!(handle, alloc, pass => pass.gain(caller, PageId(page), Gain::Pin)))
 }
@@ -193,7 +193,7 @@ pub extern "C" fn thp_c_pass_write(
     first: u32,
     count: u32,
 ) -> u32
-    ensures { Reports result (Does (value_of handle.old.held) (value_of handle.new.held) (PassOne caller (call.write page first count) (What.Write page first count))) }
+    ensures { Reports result (DoesOnHandle (value_of handle.old.held) (value_of handle.new.held) (PassOne caller (call.write page first count) (What.Write page first count))) }
 {
     let gain = Gain::Write { first, count };
     code(on_pass!(handle, alloc, pass => pass.gain(caller, PageId(page), gain)))
@@ -209,7 +209,7 @@ pub extern "C" fn thp_c_pass_zero(
     first: u32,
     count: u32,
 ) -> u32
-    ensures { Reports result (Does (value_of handle.old.held) (value_of handle.new.held) (PassOne caller (call.zero_fill page first count) (What.Zero page first count))) }
+    ensures { Reports result (DoesOnHandle (value_of handle.old.held) (value_of handle.new.held) (PassOne caller (call.zero_fill page first count) (What.Zero page first count))) }
 {
     let gain = Gain::Zero { first, count };
     code(on_pass!(handle, alloc, pass => pass.gain(caller, PageId(page), gain)))

@@ -1,7 +1,7 @@
 //! The calls of a shared node: of its cell, and of passes of the cell.
 ghost use Rattle.std.specs.Prelude.{◌≡◌, None, OnOk, OnErr, IfErr, Ok};
 ghost use Rattle.thp_history.specs.Refusals as call;
-ghost use Rattle.thp_capi.specs.Prelude.{CellMade, Divided, Does, Emptied, Finished, IsCode, Joined, OneCellHeld, PassAbandon, PassAlloc, PassBack, PassCount, PassNext, PassOne, PassScan, PassTake, Reports, Returns, WhyApart, WhyUndivided, WhyUnfinished, answer_of, shape_of, value_of};
+ghost use Rattle.thp_capi.specs.Prelude.{CellMade, Divided, DoesOnHandle, Emptied, Finished, IsCode, Joined, OneCellHeld, PassAbandon, PassAlloc, PassBack, PassCount, PassNext, PassOne, PassScan, PassTake, Reports, Returns, WhyApart, WhyUndivided, WhyUnfinished, answer_of_code, shape_with, value_of};
 
 use std::alloc::Global;
 use thp_capi::{
@@ -23,7 +23,7 @@ pub extern "C" fn thp_c_cell_create(
     mark: u64,
     counting: bool,
 ) -> u32
-    ensures { Reports result (CellMade (value_of handle.old.held) (value_of handle.new.held) (shape_of blocks order underused) callers mark counting) }
+    ensures { Reports result (CellMade (value_of handle.old.held) (value_of handle.new.held) (shape_with blocks order underused) callers mark counting) }
 {
     if let Ok((room, pass)) = handle.take(alloc) {
         handle.put(room, pass);
@@ -55,10 +55,10 @@ pub extern "C" fn thp_c_pass_split(
     at: u32,
     other: &mut ThpPass,
 ) -> u32
-    ensures done { OnOk (answer_of result) (Divided at (value_of handle.old.held) (value_of handle.new.held) (value_of other.new.held)) }
-    ensures same { OnErr (answer_of result) (value_of handle.new.held ≡ value_of handle.old.held) }
-    ensures same_other { OnErr (answer_of result) (value_of other.new.held ≡ value_of other.old.held) }
-    ensures why { IfErr (answer_of result) (WhyUndivided at (value_of handle.old.held) (value_of other.old.held)) }
+    ensures done { OnOk (answer_of_code result) (Divided at (value_of handle.old.held) (value_of handle.new.held) (value_of other.new.held)) }
+    ensures same { OnErr (answer_of_code result) (value_of handle.new.held ≡ value_of handle.old.held) }
+    ensures same_other { OnErr (answer_of_code result) (value_of other.new.held ≡ value_of other.old.held) }
+    ensures why { IfErr (answer_of_code result) (WhyUndivided at (value_of handle.old.held) (value_of other.old.held)) }
     ensures known { IsCode result }
 {
     if let Ok((room, pass)) = other.take(alloc) {
@@ -88,11 +88,11 @@ pub extern "C" fn thp_c_pass_split(
 #[unsafe(no_mangle)]
 pub extern "C" fn thp_c_pass_join(handle: &mut ThpPass, alloc: Global, other: &mut ThpPass) -> u32
     requires { OneCellHeld (value_of handle.old.held) (value_of other.old.held) }
-    ensures done { OnOk (answer_of result) (Joined (value_of handle.old.held) (value_of other.old.held) (value_of handle.new.held)) }
-    ensures emptied { OnOk (answer_of result) (value_of other.new.held ≡ None) }
-    ensures same { OnErr (answer_of result) (value_of handle.new.held ≡ value_of handle.old.held) }
-    ensures same_other { OnErr (answer_of result) (value_of other.new.held ≡ value_of other.old.held) }
-    ensures why { IfErr (answer_of result) (WhyApart (value_of handle.old.held) (value_of other.old.held)) }
+    ensures done { OnOk (answer_of_code result) (Joined (value_of handle.old.held) (value_of other.old.held) (value_of handle.new.held)) }
+    ensures emptied { OnOk (answer_of_code result) (value_of other.new.held ≡ None) }
+    ensures same { OnErr (answer_of_code result) (value_of handle.new.held ≡ value_of handle.old.held) }
+    ensures same_other { OnErr (answer_of_code result) (value_of other.new.held ≡ value_of other.old.held) }
+    ensures why { IfErr (answer_of_code result) (WhyApart (value_of handle.old.held) (value_of other.old.held)) }
     ensures known { IsCode result }
 {
     let (room, left) = attempt!(handle.take(alloc));
@@ -117,11 +117,11 @@ pub extern "C" fn thp_c_pass_join(handle: &mut ThpPass, alloc: Global, other: &m
 /// node, and empties the first.
 #[unsafe(no_mangle)]
 pub extern "C" fn thp_c_cell_finish(handle: &mut ThpPass, alloc: Global, node: &mut ThpNode) -> u32
-    ensures done { OnOk (answer_of result) (Finished (value_of handle.old.held) node.new.held) }
-    ensures emptied { OnOk (answer_of result) (value_of handle.new.held ≡ None) }
-    ensures same { OnErr (answer_of result) (value_of handle.new.held ≡ value_of handle.old.held) }
-    ensures same_node { OnErr (answer_of result) (node.new.held ≡ node.old.held) }
-    ensures why { IfErr (answer_of result) (WhyUnfinished (value_of handle.old.held) node.old.held) }
+    ensures done { OnOk (answer_of_code result) (Finished (value_of handle.old.held) node.new.held) }
+    ensures emptied { OnOk (answer_of_code result) (value_of handle.new.held ≡ None) }
+    ensures same { OnErr (answer_of_code result) (value_of handle.new.held ≡ value_of handle.old.held) }
+    ensures same_node { OnErr (answer_of_code result) (node.new.held ≡ node.old.held) }
+    ensures why { IfErr (answer_of_code result) (WhyUnfinished (value_of handle.old.held) node.old.held) }
     ensures known { IsCode result }
 {
     if let Ok(engine) = node.take(alloc) {
@@ -163,7 +163,7 @@ pub extern "C" fn thp_c_pass_alloc(
 /// Closes the node: no page is queued or allocated afterwards.
 #[unsafe(no_mangle)]
 pub extern "C" fn thp_c_pass_close(handle: &mut ThpPass, alloc: Global, caller: u32) -> u32
-    ensures { Reports result (Does (value_of handle.old.held) (value_of handle.new.held) (PassOne caller call.close What.Close)) }
+    ensures { Reports result (DoesOnHandle (value_of handle.old.held) (value_of handle.new.held) (PassOne caller call.close What.Close)) }
 {
     code(on_pass!(handle, alloc, pass => pass.close(caller)))
 }
@@ -185,8 +185,8 @@ pub extern "C" fn thp_c_pass_scan(
 /// Stores in `pages` the number of queued pages, even while another pass has the node.
 #[unsafe(no_mangle)]
 pub extern "C" fn thp_c_pass_count(handle: &mut ThpPass, alloc: Global, pages: &mut u32) -> u32
-    ensures does { Reports result (Does (value_of handle.old.held) (value_of handle.new.held) (λ old new answer. (answer ≡ Ok tt) × PassCount pages.new old new)) }
-    ensures kept { OnErr (answer_of result) (pages.new ≡ pages.old) }
+    ensures does { Reports result (DoesOnHandle (value_of handle.old.held) (value_of handle.new.held) (λ old new answer. (answer ≡ Ok tt) × PassCount pages.new old new)) }
+    ensures kept { OnErr (answer_of_code result) (pages.new ≡ pages.old) }
 {
     *pages = on_pass!(handle, alloc, pass => pass.count());
     code(Ok(()))
@@ -200,9 +200,9 @@ pub extern "C" fn thp_c_pass_callers(
     first: &mut u32,
     end: &mut u32,
 ) -> u32
-    ensures does { Reports result (Does (value_of handle.old.held) (value_of handle.new.held) (λ old new answer. (new ≡ old) × (answer ≡ Ok tt) × (first.new ≡ old.pass.first) × (end.new ≡ old.pass.end))) }
-    ensures kept_first { OnErr (answer_of result) (first.new ≡ first.old) }
-    ensures kept_end { OnErr (answer_of result) (end.new ≡ end.old) }
+    ensures does { Reports result (DoesOnHandle (value_of handle.old.held) (value_of handle.new.held) (λ old new answer. (new ≡ old) × (answer ≡ Ok tt) × (first.new ≡ old.pass.first) × (end.new ≡ old.pass.end))) }
+    ensures kept_first { OnErr (answer_of_code result) (first.new ≡ first.old) }
+    ensures kept_end { OnErr (answer_of_code result) (end.new ≡ end.old) }
 {
     let (from, to) = on_pass!(handle, alloc, pass => pass.callers());
     *first = from;
@@ -254,7 +254,7 @@ pub extern "C" fn thp_c_pass_put_back(
 /// Discards the caller's open batch: its pages stay in the caller's flight, out of the queue.
 #[unsafe(no_mangle)]
 pub extern "C" fn thp_c_pass_abandon(handle: &mut ThpPass, alloc: Global, caller: u32) -> u32
-    ensures { Reports result (Does (value_of handle.old.held) (value_of handle.new.held) (PassAbandon caller)) }
+    ensures { Reports result (DoesOnHandle (value_of handle.old.held) (value_of handle.new.held) (PassAbandon caller)) }
 {
     code(on_pass!(handle, alloc, pass => pass.abandon(caller)))
 }

@@ -28,4 +28,4 @@ masks_none words truths i short = absurd (omega arith)
 pub masks_more : (words : List ℕ) (truths : List Bool) (k w : ℕ) → length words ≡ 8 → k < 8
     → ((i : ℕ) → i / 64 ≡ k → nat_eq (bit_at w (i % 64)) 1 ≡ has truths i)
     → MasksBelow k words truths → MasksBelow (k + 1) (set words k w) truths
-masks_more words truths k w eight h told below i short = grind (arith, eqb_tells, in_set, in_other, lower)
+masks_more words truths k w eight h reported below i short = grind (arith, eqb_tells, in_set, in_other, lower)

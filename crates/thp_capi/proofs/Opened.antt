@@ -14,7 +14,7 @@ use Rattle.thp_capi.specs.PassBatches.{PassNext, PassBack, PassTake, PassFailsOn
 use Rattle.thp_capi.specs.Replies.{tried_of}
 use Rattle.thp_capi.specs.declared.codes.Fault.{Fault}
 use Rattle.thp_capi.specs.declared.codes.Fault.TheVariants.{NoBatch}
-use Rattle.thp_capi.specs.Sharing.{IsPart, IsShared, OnlyFront, OnlyOf, SharedState, batch_of}
+use Rattle.thp_capi.specs.Sharing.{ChangesOnly, IsShared, IsSharedPart, OnlyFront, SharedState, shared_batch_of}
 use Rattle.thp_node.specs.declared.answers.BackReply.{BackReply}
 use Rattle.thp_capi.specs.declared.replies.ThpTried.{ThpTried}
 use Rattle.thp_capi.proofs.Places.{Batches, IsFor, each_set, for_none, for_some, same_again}
@@ -66,26 +66,26 @@ module _ (t : TableId) (n m room : ℕ) (p q : PassState) (bs new : Batches) (c 
   shared_closed stay now = rw (now, kept) (shared_set t n m p q bs c place None shared same (others_stay p q c stay) at lt (for_none q.front c))
 
 -- where the caller's batch is found
-pub found_at : (mark c place : ℕ) (p : PassState) (bs : Batches) → place + p.first ≡ c → batch_of (record { mark = mark; pass = p; batches = bs }) c ≡ get_or bs place None
+pub found_at : (mark c place : ℕ) (p : PassState) (bs : Batches) → place + p.first ≡ c → shared_batch_of (record { mark = mark; pass = p; batches = bs }) c ≡ get_or bs place None
 found_at mark c place p bs at = grind (arith, nat_le, nat_tests)
 
-pub found_set : (mark c place : ℕ) (p : PassState) (bs : Batches) (x : Option BatchState) → place + p.first ≡ c → place < length bs → batch_of (record { mark = mark; pass = p; batches = set bs place x }) c ≡ x
+pub found_set : (mark c place : ℕ) (p : PassState) (bs : Batches) (x : Option BatchState) → place + p.first ≡ c → place < length bs → shared_batch_of (record { mark = mark; pass = p; batches = set bs place x }) c ≡ x
 found_set mark c place p bs x at lt = found_at mark c place p (set bs place x) at ∙ get_or-set_same bs place x None lt
 
 -- and another caller's
-pub other_set : (mark c place : ℕ) (p q : PassState) (bs : Batches) (x : Option BatchState) → q ≡ at_front p q.front → place + p.first ≡ c → (d : ℕ) → d ≢ c → batch_of (record { mark = mark; pass = q; batches = set bs place x }) d ≡ batch_of (record { mark = mark; pass = p; batches = bs }) d
+pub other_set : (mark c place : ℕ) (p q : PassState) (bs : Batches) (x : Option BatchState) → q ≡ at_front p q.front → place + p.first ≡ c → (d : ℕ) → d ≢ c → shared_batch_of (record { mark = mark; pass = q; batches = set bs place x }) d ≡ shared_batch_of (record { mark = mark; pass = p; batches = bs }) d
 other_set mark c place p q bs x same at d other = grind (arith, nat_le, nat_tests, get_or-set_other)
 
 -- ---- what calls about an open batch did
 
 module _ (mark : ℕ) (p q : PassState) (bs new : Batches) (c place : ℕ) (same : q ≡ at_front p q.front) (at : place + p.first ≡ c) (lt : place < length bs) where
-  only_of : (x : Option BatchState) → new ≡ set bs place x → OnlyOf c (record { mark = mark; pass = p; batches = bs }) (record { mark = mark; pass = q; batches = new })
+  only_of : (x : Option BatchState) → new ≡ set bs place x → ChangesOnly c (record { mark = mark; pass = p; batches = bs }) (record { mark = mark; pass = q; batches = new })
   only_of x now = rw now (record { mark = refl; pass = same; others = other_set mark c place p q bs x same at })
 
-  held : (b : BatchState) → get_or bs place None ≡ Some b → batch_of (record { mark = mark; pass = p; batches = bs }) c ≡ Some b
+  held : (b : BatchState) → get_or bs place None ≡ Some b → shared_batch_of (record { mark = mark; pass = p; batches = bs }) c ≡ Some b
   held b is = found_at mark c place p bs at ∙ is
 
-  here : (x : Option BatchState) → new ≡ set bs place x → batch_of (record { mark = mark; pass = q; batches = new }) c ≡ x
+  here : (x : Option BatchState) → new ≡ set bs place x → shared_batch_of (record { mark = mark; pass = q; batches = new }) c ≡ x
   here x now =
       let first : q.first ≡ p.first = ap (λ (x : PassState). x.first) same in
       rw now (found_set mark c place q bs x (rw first at) lt)
@@ -126,9 +126,9 @@ module _ (mark : ℕ) (p q : PassState) (bs new : Batches) (c place : ℕ) (same
   back_done b r is own now did = (only_of None now, rw (held b is) refl, here None now, rw (held b is) (subst (λ d. Called p q d (DidPutBack p.shape b r)) own did), tt)
 
 -- the result of a call that fails is its fault
-pub told_as : {A : Type 0} (r : Result A Fault) (f : Fault) → IsErrAnd r (λ e. e ≡ f) → r ≡ Err f
-told_as (Ok x) f is = absurd is
-told_as (Err e) f is = ap (λ x. Err x) is
+pub reported_as : {A : Type 0} (r : Result A Fault) (f : Fault) → IsErrAnd r (λ e. e ≡ f) → r ≡ Err f
+reported_as (Ok x) f is = absurd is
+reported_as (Err e) f is = ap (λ x. Err x) is
 
 -- a try without an open batch
 pub next_none : (mark : ℕ) (p : PassState) (bs new : Batches) (c place : ℕ) → place + p.first ≡ c → place < length bs → get_or bs place None ≡ None → new ≡ bs
@@ -146,10 +146,10 @@ pub shared_from : (t : TableId) (n m room : ℕ) (p : PassState) (bs : Batches) 
 shared_from t n m room p bs at k shared is le enough = grind (arith, length-drop, get_or-drop)
 
 -- the callers of each part keep their open batches
-pub part_below : (mark : ℕ) (p : PassState) (bs : Batches) (at k : ℕ) → k + p.first ≡ at → IsPart (below p at) (record { mark = mark; pass = p; batches = bs }) (record { mark = mark; pass = below p at; batches = take k bs })
+pub part_below : (mark : ℕ) (p : PassState) (bs : Batches) (at k : ℕ) → k + p.first ≡ at → IsSharedPart (below p at) (record { mark = mark; pass = p; batches = bs }) (record { mark = mark; pass = below p at; batches = take k bs })
 part_below mark p bs at k is = record { pass = refl; mark = refl; batches = λ c has. grind (arith, nat_le, nat_tests, get_or-take) }
 
-pub part_from : (mark : ℕ) (p : PassState) (bs : Batches) (at k : ℕ) → k + p.first ≡ at → IsPart (from p at) (record { mark = mark; pass = p; batches = bs }) (record { mark = mark; pass = from p at; batches = drop k bs })
+pub part_from : (mark : ℕ) (p : PassState) (bs : Batches) (at k : ℕ) → k + p.first ≡ at → IsSharedPart (from p at) (record { mark = mark; pass = p; batches = bs }) (record { mark = mark; pass = from p at; batches = drop k bs })
 part_from mark p bs at k is = record { pass = refl; mark = refl; batches = λ c has. grind (arith, nat_le, nat_tests, get_or-drop) }
 
 pub shared_joined : (t u : TableId) (n m h l room : ℕ) (p q r : PassState) (bs cs : Batches) → IsShared t n m p bs → IsShared u h l q cs → IsJoined p q r → BatchesStay p r → BatchesStay q r → p.end ≡ q.first → m ≤ room → IsShared t n room r (bs ++ cs)

@@ -81,7 +81,7 @@ marks_more h ps left p b found once apart some short page home inside m = record
   once_p : times p (take (left - 1) ps ++ p ∷ drop (left - 1 + 1) ps) ≤ 1
   once_p = let T : List ℕ → Type 0 = λ ys. times p ys ≤ 1 in subst T split (once p)
 
--- a mark tells whether a queued page is still to be found
+-- a mark shows whether a queued page is still to be found
 marked_left : (h : History) (ps : List ℕ) (left : ℕ) (found : List Bool) (p b : ℕ) → Marked h ps left found → has_page p ps ≡ true → block_of h p ≡ Some b →
     get_or found b false ≡ false → has_page p (take left ps) ≡ true
 marked_left h ps left found p b m there home e = go (has_page p (take left ps)) (sym (m.marks p b there home) ∙ e) where

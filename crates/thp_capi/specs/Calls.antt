@@ -7,8 +7,8 @@ use Rattle.thp_history.specs.declared.refusal.Refusal.TheVariants.{OutOfMemory}
 use Rattle.thp_history.specs.Prelude.{allocations, outcome, released, by, max_batch, max_callers, queue, Call, refusal, alloc_page, scan, take as take_call, take_events, split_next_events, put_back_events, scan_events, next_page, rest_after, still_flying}
 use Rattle.thp_node.specs.Prelude.{BatchState, rest, tried, back_reply, scan_reply, Did, DidAlloc, Refused, NodeState}
 use Rattle.thp_capi.specs.Codes.{Answer}
-use Rattle.thp_capi.specs.Engines.{EngineState, OthersOpen, open_of}
-use Rattle.thp_capi.specs.Replies.{IsTried, MasksSet, outcome_number}
+use Rattle.thp_capi.specs.Engines.{EngineState, OthersOpen, engine_open_of}
+use Rattle.thp_capi.specs.Replies.{HasTried, MasksSet, outcome_number}
 use Rattle.thp_capi.specs.declared.codes.Fault.{Fault}
 use Rattle.thp_capi.specs.declared.codes.Fault.TheVariants.{Refused as RefusedWith, BadCaller, BadCount, BatchOpen, NoBatch, TooSmall}
 use Rattle.thp_node.specs.declared.answers.BackReply.{BackReply}
@@ -31,13 +31,13 @@ FailsAsking n caller why m old new f = Fails caller why m old new f
 
 -- the same for a take
 abbrev pub FailsTaking : ℕ → ℕ → Option Refusal → ℕ → EngineState → EngineState → Fault → Type 0
-FailsTaking n caller why m old new BatchOpen = IsSome (open_of old caller) × (new ≡ old)
+FailsTaking n caller why m old new BatchOpen = IsSome (engine_open_of old caller) × (new ≡ old)
 FailsTaking n caller why m old new f = FailsAsking n caller why m old new f
 
 -- the same for a call on the caller's open batch, which records the number of events that m gives
 abbrev pub FailsOnBatch : ℕ → (BatchState → ℕ) → EngineState → EngineState → Fault → Type 0
-FailsOnBatch caller m old new NoBatch = (open_of old caller ≡ None) × (new ≡ old)
-FailsOnBatch caller m old new (RefusedWith r) = (new ≡ old) × IsSome (open_of old caller) × IfSome (open_of old caller) (λ b. Refused old.node new.node None (m b) r)
+FailsOnBatch caller m old new NoBatch = (engine_open_of old caller ≡ None) × (new ≡ old)
+FailsOnBatch caller m old new (RefusedWith r) = (new ≡ old) × IsSome (engine_open_of old caller) × IfSome (engine_open_of old caller) (λ b. Refused old.node new.node None (m b) r)
 FailsOnBatch caller m old new _ = ⊥
 
 -- ---- calls about pages
@@ -85,8 +85,8 @@ abbrev pub TakeCall : ℕ → ℕ → EngineState → EngineState → Result ℕ
 TakeCall caller n old new answer =
     let s = old.node.shape in let h = old.node.journal in let ps = take n (queue s h) in
     OnOk answer ((refusal s h (take_call caller) ≡ None) × Did old.node new.node caller (take_events s h caller n))
-    × OnOk answer (open_of old caller ≡ None)
-    × OnOk answer (open_of new caller ≡ Some (record { caller = caller; pages = ps; place = 0 }))
+    × OnOk answer (engine_open_of old caller ≡ None)
+    × OnOk answer (engine_open_of new caller ≡ Some (record { caller = caller; pages = ps; place = 0 }))
     × OthersOpen caller old new
     × IfOk answer (λ k. k ≡ length ps)
     × IfErr answer (FailsTaking n caller (refusal s h (take_call caller)) (length (take_events s h caller n)) old new)
@@ -104,15 +104,15 @@ Batched _ _ P = ⊥
 abbrev pub NextCall : ℕ → EngineState → EngineState → Result ThpTried Fault → Type 0
 NextCall caller old new answer =
     let s = old.node.shape in let h = old.node.journal in
-    IfOk answer (λ t. Batched (open_of old caller) (open_of new caller) (λ b c. Advanced old.node b c × IsTried t (tried s h (next_page h caller (rest b))) × Did old.node new.node caller (split_next_events s h caller (rest b))))
+    IfOk answer (λ t. Batched (engine_open_of old caller) (engine_open_of new caller) (λ b c. Advanced old.node b c × HasTried t (tried s h (next_page h caller (rest b))) × Did old.node new.node caller (split_next_events s h caller (rest b))))
     × OthersOpen caller old new
     × IfErr answer (FailsOnBatch caller (λ b. length (split_next_events s h caller (rest b))) old new)
 
 abbrev pub BackReplies : ℕ → EngineState → BackReply → Type 0
-BackReplies caller old r = IfSome (open_of old caller) (λ b. r ≡ back_reply old.node.shape old.node.journal (still_flying old.node.journal caller b.pages))
+BackReplies caller old r = IfSome (engine_open_of old caller) (λ b. r ≡ back_reply old.node.shape old.node.journal (still_flying old.node.journal caller b.pages))
 
 abbrev pub BackRecords : ℕ → EngineState → EngineState → Type 0
-BackRecords caller old new = IfSome (open_of old caller) (λ b. Did old.node new.node caller (put_back_events old.node.shape old.node.journal caller b.pages))
+BackRecords caller old new = IfSome (engine_open_of old caller) (λ b. Did old.node new.node caller (put_back_events old.node.shape old.node.journal caller b.pages))
 
 abbrev pub BackFails : ℕ → EngineState → EngineState → Fault → Type 0
 BackFails caller old new f = FailsOnBatch caller (λ b. length (put_back_events old.node.shape old.node.journal caller b.pages)) old new f
@@ -120,8 +120,8 @@ BackFails caller old new f = FailsOnBatch caller (λ b. length (put_back_events 
 -- the return of the pages of the caller's open batch, which is closed afterwards
 abbrev pub BackCall : ℕ → EngineState → EngineState → Result BackReply Fault → Type 0
 BackCall caller old new answer =
-    OnOk answer (IsSome (open_of old caller))
-    × OnOk answer (open_of new caller ≡ None)
+    OnOk answer (IsSome (engine_open_of old caller))
+    × OnOk answer (engine_open_of new caller ≡ None)
     × OthersOpen caller old new
     × IfOk answer (BackReplies caller old)
     × OnOk answer (BackRecords caller old new)
@@ -131,10 +131,10 @@ BackCall caller old new answer =
 abbrev pub AbandonCall : ℕ → EngineState → EngineState → Answer → Type 0
 AbandonCall caller old new answer =
     (new.node ≡ old.node)
-    × OnOk answer (IsSome (open_of old caller))
-    × OnOk answer (open_of new caller ≡ None)
+    × OnOk answer (IsSome (engine_open_of old caller))
+    × OnOk answer (engine_open_of new caller ≡ None)
     × OthersOpen caller old new
-    × IfErr answer (λ f. (f ≡ NoBatch) × (open_of old caller ≡ None) × (new ≡ old))
+    × IfErr answer (λ f. (f ≡ NoBatch) × (engine_open_of old caller ≡ None) × (new ≡ old))
 
 -- ---- the node's memory, and its journal as text
 

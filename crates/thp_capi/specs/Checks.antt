@@ -31,8 +31,8 @@ text_code BadSet = 28
 text_code BadOrder = 29
 
 -- the code and the line (0: none)
-abbrev pub numbers_of : CheckAnswer → ℕ × ℕ
-numbers_of (Ok None) = (0, 0)
-numbers_of (Ok (Some line)) = (21, line)
-numbers_of (Err (TextFault line kind)) = (text_code kind, line)
-numbers_of (Err OutOfMemory) = (11, 0)
+abbrev pub code_and_line : CheckAnswer → ℕ × ℕ
+code_and_line (Ok None) = (0, 0)
+code_and_line (Ok (Some line)) = (21, line)
+code_and_line (Err (TextFault line kind)) = (text_code kind, line)
+code_and_line (Err OutOfMemory) = (11, 0)

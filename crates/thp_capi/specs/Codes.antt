@@ -55,8 +55,8 @@ nth (a ∷ more) zero = a
 nth (a ∷ more) (suc n) = nth more n
 
 -- the result of this number
-abbrev pub answer_of : ℕ → Answer
-answer_of code = if nat_le 30 code then nth later_answers (code - 30) else nth answers code
+abbrev pub answer_of_code : ℕ → Answer
+answer_of_code code = if nat_le 30 code then nth later_answers (code - 30) else nth answers code
 
 -- the number is that of a result
 abbrev pub IsCode : ℕ → Type 0
@@ -69,4 +69,4 @@ answer_with (Err f) a = Err f
 
 -- the number is that of a result, and P holds of the result
 abbrev pub Reports : ℕ → (Answer → Type 0) → Type 0
-Reports code P = IsCode code × P (answer_of code)
+Reports code P = IsCode code × P (answer_of_code code)

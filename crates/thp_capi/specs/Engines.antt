@@ -16,21 +16,21 @@ pub record IsEngine (e : EngineState) : Type 0 where
   pub each : EachOpen e.node.journal 0 e.batches
 
 -- the open batch of caller c, if it has one
-abbrev pub open_of : EngineState → ℕ → Option BatchState
-open_of e c = get_or e.batches c None
+abbrev pub engine_open_of : EngineState → ℕ → Option BatchState
+engine_open_of e c = get_or e.batches c None
 
 -- no caller has an open batch
 abbrev pub NoneOpen : EngineState → Type 0
-NoneOpen e = (c : ℕ) → open_of e c ≡ None
+NoneOpen e = (c : ℕ) → engine_open_of e c ≡ None
 
 -- the open batches of all callers except c are unchanged
 abbrev pub OthersOpen : ℕ → EngineState → EngineState → Type 0
-OthersOpen c old new = (d : ℕ) → d ≢ c → open_of new d ≡ open_of old d
+OthersOpen c old new = (d : ℕ) → d ≢ c → engine_open_of new d ≡ engine_open_of old d
 
 -- the number that means no threshold, the header's THP_UNDERUSED_OFF
 abbrev pub underused_off : ℕ
 underused_off = 4294967295
 
 -- the shape with these numbers
-abbrev pub shape_of : ℕ → ℕ → ℕ → Shape
-shape_of blocks order underused = record { blocks = blocks; order = order; underused = if nat_eq underused underused_off then None else Some underused }
+abbrev pub shape_with : ℕ → ℕ → ℕ → Shape
+shape_with blocks order underused = record { blocks = blocks; order = order; underused = if nat_eq underused underused_off then None else Some underused }

@@ -37,12 +37,12 @@ DoesIfKept _ _ P Q answer = ⊥
 
 -- a call on a handle that is not empty has the effect P, and what becomes of the node's events stays; on an empty handle it reports
 -- that
-abbrev pub Does : {X : Type 0} → Option (Held X X) → Option (Held X X) → (X → X → Answer → Type 0) → Answer → Type 0
-Does old new P answer = DoesIfKept old new P P answer
+abbrev pub DoesOnHandle : {X : Type 0} → Option (Held X X) → Option (Held X X) → (X → X → Answer → Type 0) → Answer → Type 0
+DoesOnHandle old new P answer = DoesIfKept old new P P answer
 
 -- the same for a call that returns a value, which is stored in place of `before`; an error stores nothing
 abbrev pub Returns : {X A : Type 0} → Option (Held X X) → Option (Held X X) → A → A → (X → X → Result A Fault → Type 0) → Answer → Type 0
-Returns old new before after P answer = Does old new (λ old new answer. P old new (answer_with answer after)) answer × OnErr answer (after ≡ before)
+Returns old new before after P answer = DoesOnHandle old new (λ old new answer. P old new (answer_with answer after)) answer × OnErr answer (after ≡ before)
 
 -- a handle was filled with a value of which P holds; or the reason why it stays empty; or it was not empty
 abbrev pub Filled : {X : Type 0} → Option X → Option X → (X → Type 0) → Type 0 → Answer → Type 0
@@ -52,8 +52,8 @@ Filled (Some old) (Some new) P IsSize answer = (new ≡ old) × (answer ≡ Err 
 Filled (Some old) None P IsSize answer = ⊥
 
 -- a node of this shape was created, with no page and no batch
-abbrev pub Made : Option HeldEngine → Option HeldEngine → Shape → Bool → Answer → Type 0
-Made old new s counting answer =
+abbrev pub MadeNode : Option HeldEngine → Option HeldEngine → Shape → Bool → Answer → Type 0
+MadeNode old new s counting answer =
     Filled old new (λ held. (is_counting held ≡ counting) × ((held_value held).node.shape ≡ s) × ((held_value held).node.journal ≡ []) × NoneOpen (held_value held)) (IsShape s) answer
 
 -- the handle is empty, whatever it had before

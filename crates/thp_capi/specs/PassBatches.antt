@@ -7,7 +7,7 @@ use Rattle.thp_capi.specs.Calls.{Batched}
 use Rattle.thp_capi.specs.Codes.{Answer}
 use Rattle.thp_capi.specs.Passes.{PassFails, PassFailsAsking}
 use Rattle.thp_capi.specs.Replies.{tried_of}
-use Rattle.thp_capi.specs.Sharing.{SharedState, OnlyFront, OnlyOf, batch_of}
+use Rattle.thp_capi.specs.Sharing.{SharedState, OnlyFront, ChangesOnly, shared_batch_of}
 use Rattle.thp_capi.specs.declared.codes.Fault.{Fault}
 use Rattle.thp_capi.specs.declared.codes.Fault.TheVariants.{BadCaller, BatchOpen, NoBatch}
 use Rattle.thp_node.specs.declared.answers.BackReply.{BackReply}
@@ -17,16 +17,16 @@ use Rattle.thp_capi.specs.declared.replies.ThpTried.{ThpTried}
 
 -- a take of up to n pages: the caller has an open batch, or a call that requests n pages fails
 abbrev pub PassFailsTaking : ℕ → ℕ → SharedState → SharedState → Fault → Type 0
-PassFailsTaking n caller old new BatchOpen = IsSome (batch_of old caller) × (new ≡ old)
+PassFailsTaking n caller old new BatchOpen = IsSome (shared_batch_of old caller) × (new ≡ old)
 PassFailsTaking n caller old new f =
     let s = new.pass.shape in let h = new.pass.front in
     OnlyFront old new × PassFailsAsking n caller (refusal s h (take_call caller)) (length (take_events s h caller n)) old.pass new.pass f
 
 -- a call on the caller's open batch, which records the number of events that m gives: there is no open batch, or the call fails
 abbrev pub PassFailsOnBatch : ℕ → (BatchState → ℕ) → SharedState → SharedState → Fault → Type 0
-PassFailsOnBatch caller m old new NoBatch = (batch_of old caller ≡ None) × (new ≡ old)
+PassFailsOnBatch caller m old new NoBatch = (shared_batch_of old caller ≡ None) × (new ≡ old)
 PassFailsOnBatch caller m old new BadCaller = (HasCaller old.pass caller → ⊥) × (new ≡ old)
-PassFailsOnBatch caller m old new f = OnlyFront old new × IsSome (batch_of old caller) × IfSome (batch_of old caller) (λ b. PassFails caller None (m b) old.pass new.pass f)
+PassFailsOnBatch caller m old new f = OnlyFront old new × IsSome (shared_batch_of old caller) × IfSome (shared_batch_of old caller) (λ b. PassFails caller None (m b) old.pass new.pass f)
 
 -- ---- the calls
 
@@ -37,10 +37,10 @@ TookBatch caller n old new count b = Called old.pass new.pass caller (DidTake ol
 -- a take, which returns the number of pages in the caller's open batch
 abbrev pub PassTake : ℕ → ℕ → SharedState → SharedState → Result ℕ Fault → Type 0
 PassTake caller n old new answer =
-    OnlyOf caller old new
-    × OnOk answer (batch_of old caller ≡ None)
-    × OnOk answer (IsSome (batch_of new caller))
-    × IfOk answer (λ count. IfSome (batch_of new caller) (TookBatch caller n old new count))
+    ChangesOnly caller old new
+    × OnOk answer (shared_batch_of old caller ≡ None)
+    × OnOk answer (IsSome (shared_batch_of new caller))
+    × IfOk answer (λ count. IfSome (shared_batch_of new caller) (TookBatch caller n old new count))
     × IfErr answer (PassFailsTaking n caller old new)
 
 -- the open batch b became c: the same pages, after a try of the next one
@@ -53,30 +53,30 @@ pub record TriedNext (caller : ℕ) (old new : SharedState) (t : ThpTried) (b c 
 -- a try of the next page of the caller's open batch
 abbrev pub PassNext : ℕ → SharedState → SharedState → Result ThpTried Fault → Type 0
 PassNext caller old new answer =
-    OnlyOf caller old new
-    × IfOk answer (λ t. Batched (batch_of old caller) (batch_of new caller) (TriedNext caller old new t))
+    ChangesOnly caller old new
+    × IfOk answer (λ t. Batched (shared_batch_of old caller) (shared_batch_of new caller) (TriedNext caller old new t))
     × IfErr answer (PassFailsOnBatch caller (λ b. length (split_next_events new.pass.shape new.pass.front caller (rest b))) old new)
 
 -- the return of the pages of the caller's open batch, which is closed afterwards
 abbrev pub PassBack : ℕ → SharedState → SharedState → Result BackReply Fault → Type 0
 PassBack caller old new answer =
-    OnlyOf caller old new
-    × OnOk answer (IsSome (batch_of old caller))
-    × OnOk answer (batch_of new caller ≡ None)
-    × IfOk answer (λ r. IfSome (batch_of old caller) (λ b. Called old.pass new.pass caller (DidPutBack old.pass.shape b r)))
+    ChangesOnly caller old new
+    × OnOk answer (IsSome (shared_batch_of old caller))
+    × OnOk answer (shared_batch_of new caller ≡ None)
+    × IfOk answer (λ r. IfSome (shared_batch_of old caller) (λ b. Called old.pass new.pass caller (DidPutBack old.pass.shape b r)))
     × IfErr answer (PassFailsOnBatch caller (λ b. length (put_back_events new.pass.shape new.pass.front caller b.pages)) old new)
 
 -- why a caller's batch was not closed
 abbrev pub WhyKept : ℕ → SharedState → Fault → Type 0
-WhyKept caller old NoBatch = batch_of old caller ≡ None
+WhyKept caller old NoBatch = shared_batch_of old caller ≡ None
 WhyKept caller old BadCaller = HasCaller old.pass caller → ⊥
 WhyKept caller old _ = ⊥
 
 -- the caller's open batch is closed, and its pages don't change
 abbrev pub PassAbandon : ℕ → SharedState → SharedState → Answer → Type 0
 PassAbandon caller old new answer =
-    OnlyOf caller old new
+    ChangesOnly caller old new
     × (new.pass ≡ old.pass)
-    × OnOk answer (IsSome (batch_of old caller))
-    × OnOk answer (batch_of new caller ≡ None)
+    × OnOk answer (IsSome (shared_batch_of old caller))
+    × OnOk answer (shared_batch_of new caller ≡ None)
     × IfErr answer (λ f. WhyKept caller old f × (new ≡ old))

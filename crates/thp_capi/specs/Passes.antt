@@ -7,12 +7,12 @@ use Rattle.thp_history.specs.declared.refusal.Refusal.{Refusal}
 use Rattle.thp_history.specs.declared.refusal.Refusal.TheVariants.{OutOfMemory}
 use Rattle.thp_history.specs.declared.shape.Shape.{Shape}
 use Rattle.thp_history.specs.Prelude.{max_batch, max_callers, queue, Call, refusal, alloc_page, scan, take_events, IsShape}
-use Rattle.thp_cell.specs.Prelude.{Called, Follows, IsBusy, IsRefused, IsJoined, below, from, DidOne, DidAlloc, DidLose, DidScan, PassState, HasCaller, HasAll}
+use Rattle.thp_cell.specs.Prelude.{Called, Follows, IsBusy, IsRefused, IsJoined, below, from, DidOne, SaysAlloc, DidLose, DidScan, PassState, HasCaller, HasAll}
 use Rattle.thp_capi.specs.Codes.{Answer}
 use Rattle.thp_capi.specs.Engines.{EngineState, NoneOpen}
 use Rattle.thp_capi.specs.Held.{Filled, HeldEngine, HeldPass, held_value, is_counting}
 use Rattle.thp_capi.specs.Replies.{MasksSet, outcome_number}
-use Rattle.thp_capi.specs.Sharing.{SharedState, OnlyFront, IsPart, IsShut, HasOpen, OpenStay}
+use Rattle.thp_capi.specs.Sharing.{SharedState, OnlyFront, IsSharedPart, NoneIsOpen, HasOpen, SharedOpenStay}
 use Rattle.thp_capi.specs.declared.held.Held.TheVariants.{Kept, Counted}
 use Rattle.thp_capi.specs.declared.codes.Fault.{Fault}
 use Rattle.thp_capi.specs.declared.codes.Fault.TheVariants.{Refused as RefusedWith, BadCaller, BadCount, BadPass, BatchOpen, Busy, Empty, InUse}
@@ -45,7 +45,7 @@ PassOne caller call what old new answer =
 abbrev pub PassAlloc : ℕ → SharedState → SharedState → Result ℕ Fault → Type 0
 PassAlloc caller old new answer =
     OnlyFront old new
-    × IfOk answer (λ p. Called old.pass new.pass caller (DidAlloc old.pass.shape caller p))
+    × IfOk answer (λ p. Called old.pass new.pass caller (SaysAlloc old.pass.shape caller p))
     × IfErr answer (PassFails caller (refusal new.pass.shape new.pass.front alloc_page) 1 old.pass new.pass)
 
 -- a call that removes a mapping or a pin of page p: the numbers are those of a result of the library
@@ -108,11 +108,11 @@ AdjoinHeld _ _ = ⊥
 -- the pass of all callers of a new cell, with this mark and no open batch
 abbrev pub CellMade : Option HeldPass → Option HeldPass → Shape → ℕ → ℕ → Bool → Answer → Type 0
 CellMade old new s callers mark counting answer =
-    Filled old new (λ held. (is_counting held ≡ counting) × IsNewPass s callers (held_value held).pass × IsShut (held_value held) × ((held_value held).mark ≡ mark)) (IsCellSize s callers) answer
+    Filled old new (λ held. (is_counting held ≡ counting) × IsNewPass s callers (held_value held).pass × NoneIsOpen (held_value held) × ((held_value held).mark ≡ mark)) (IsCellSize s callers) answer
 
 -- the callers below `at` stay, and those from `at` on are another pass's, each with its open batch
 abbrev pub Parts : ℕ → SharedState → SharedState → SharedState → Type 0
-Parts at s left right = Divides at s.pass × IsPart (below s.pass at) s left × IsPart (from s.pass at) s right
+Parts at s left right = Divides at s.pass × IsSharedPart (below s.pass at) s left × IsSharedPart (from s.pass at) s right
 
 abbrev pub Divided : ℕ → Option HeldPass → Option HeldPass → Option HeldPass → Type 0
 Divided at (Some (Kept s)) (Some (Kept left)) (Some (Kept right)) = Parts at s left right
@@ -133,8 +133,8 @@ Whole left right both =
     Adjoin left right
     × IsJoined left.pass right.pass both.pass
     × (both.mark ≡ left.mark)
-    × OpenStay left both
-    × OpenStay right both
+    × SharedOpenStay left both
+    × SharedOpenStay right both
 
 -- the first handle has the callers of both
 abbrev pub Joined : Option HeldPass → Option HeldPass → Option HeldPass → Type 0
@@ -154,7 +154,7 @@ OneCellHeld left right = IfSome left (λ l. IfSome right (OneCell l))
 
 -- the cell's node, with the history that the pass of all callers knows; none of them had an open batch
 abbrev pub Dismantled : SharedState → EngineState → Type 0
-Dismantled s e = HasAll s.pass × IsShut s × (e.node.shape ≡ s.pass.shape) × (e.node.journal ≡ s.pass.front) × NoneOpen e
+Dismantled s e = HasAll s.pass × NoneIsOpen s × (e.node.shape ≡ s.pass.shape) × (e.node.journal ≡ s.pass.front) × NoneOpen e
 
 abbrev pub Finished : Option HeldPass → Option HeldEngine → Type 0
 Finished (Some (Kept s)) (Some (Kept e)) = Dismantled s e

@@ -26,8 +26,8 @@ tried_of t =
     else try.Used t.page
 
 -- the numbers are those of this result of a try
-abbrev pub IsTried : ThpTried → Tried → Type 0
-IsTried t r = (tried_of t ≡ r) × (t.kind ≤ 3)
+abbrev pub HasTried : ThpTried → Tried → Type 0
+HasTried t r = (tried_of t ≡ r) × (t.kind ≤ 3)
 
 -- the number, or the greatest 64-bit number if it is larger
 abbrev pub narrow : ℕ → ℕ

@@ -21,35 +21,35 @@ pub record IsShared (cell : TableId) (n room : ℕ) (pass : PassState) (batches 
   pub each : EachOpen pass.front pass.first batches
 
 -- the open batch of caller c, if it is one of the pass's and has one
-abbrev pub batch_of : SharedState → ℕ → Option BatchState
-batch_of s c = if nat_le s.pass.first c then get_or s.batches (c - s.pass.first) None else None
+abbrev pub shared_batch_of : SharedState → ℕ → Option BatchState
+shared_batch_of s c = if nat_le s.pass.first c then get_or s.batches (c - s.pass.first) None else None
 
 -- no caller has an open batch
-abbrev pub IsShut : SharedState → Type 0
-IsShut s = (c : ℕ) → batch_of s c ≡ None
+abbrev pub NoneIsOpen : SharedState → Type 0
+NoneIsOpen s = (c : ℕ) → shared_batch_of s c ≡ None
 
 -- some caller of the pass has an open batch
 pub record HasOpen (s : SharedState) : Type 0 where
   pub caller : ℕ
   pub own : HasCaller s.pass caller
-  pub batch : IsSome (batch_of s caller)
+  pub batch : IsSome (shared_batch_of s caller)
 
 -- only the front of the pass changed
 abbrev pub OnlyFront : SharedState → SharedState → Type 0
 OnlyFront old new = new ≡ record old { pass = at_front old.pass new.pass.front }
 
 -- only the front of the pass and the open batch of caller c changed
-pub record OnlyOf (c : ℕ) (old new : SharedState) : Type 0 where
+pub record ChangesOnly (c : ℕ) (old new : SharedState) : Type 0 where
   pub mark : new.mark ≡ old.mark
   pub pass : new.pass ≡ at_front old.pass new.pass.front
-  pub others : (d : ℕ) → d ≢ c → batch_of new d ≡ batch_of old d
+  pub others : (d : ℕ) → d ≢ c → shared_batch_of new d ≡ shared_batch_of old d
 
 -- the part p of the pass, whose callers keep their open batches
-pub record IsPart (p : PassState) (old new : SharedState) : Type 0 where
+pub record IsSharedPart (p : PassState) (old new : SharedState) : Type 0 where
   pub pass : new.pass ≡ p
   pub mark : new.mark ≡ old.mark
-  pub batches : (c : ℕ) → HasCaller p c → batch_of new c ≡ batch_of old c
+  pub batches : (c : ℕ) → HasCaller p c → shared_batch_of new c ≡ shared_batch_of old c
 
 -- the open batches of the callers don't change
-abbrev pub OpenStay : SharedState → SharedState → Type 0
-OpenStay old new = (c : ℕ) → HasCaller old.pass c → batch_of new c ≡ batch_of old c
+abbrev pub SharedOpenStay : SharedState → SharedState → Type 0
+SharedOpenStay old new = (c : ℕ) → HasCaller old.pass c → shared_batch_of new c ≡ shared_batch_of old c

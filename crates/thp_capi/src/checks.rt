@@ -1,7 +1,7 @@
 //! The checks of journal texts: of a whole text, and of one that arrives in parts.
 ghost use Rattle.std.specs.Prelude.{◌≡◌, [], IfErr, IfOk, Some};
-ghost use Rattle.thp_capi.specs.Checks.{CheckAnswer, ReportsText, numbers_of, text_code};
-ghost use Rattle.thp_capi.specs.LongChecks.{HasRead, Judges, ReadsOn, WhyNoReason, reason_of, verdict_numbers};
+ghost use Rattle.thp_capi.specs.Checks.{CheckAnswer, ReportsText, code_and_line, text_code};
+ghost use Rattle.thp_capi.specs.LongChecks.{CheckHasRead, CheckReadsOn, Judges, WhyNoReason, reason_of, verdict_numbers};
 
 use crate::codes::Fault;
 use std::alloc::{AllocError, Global};
@@ -19,7 +19,7 @@ fn code_of_kind(kind: TextKind) -> u32
 /// Checks whether the journals in a text are legal. Returns 0 if they are, 21 for an illegal event, 22 to 29 for an error of that
 /// kind in the text, and 11 if memory can't be allocated. `line` is the line of the first illegal event or error, otherwise 0.
 pub fn check_text(alloc: Global, text: &[u8], line: &mut u32) -> u32
-    ensures { (answer : CheckAnswer) × ReportsText text.now answer × ((result, line.new) ≡ numbers_of answer) }
+    ensures { (answer : CheckAnswer) × ReportsText text.now answer × ((result, line.new) ≡ code_and_line answer) }
 {
     let (code, at) = match thp_journal_reader::check_text(alloc, text) {
         Ok(None) => (0, 0),
@@ -43,14 +43,14 @@ pub enum CheckStage {
 
 /// Begins a check, which has read nothing.
 pub fn begin_check(alloc: Global) -> LongCheck
-    ensures { HasRead result [] }
+    ensures { CheckHasRead result [] }
 {
     LongCheck::new(alloc)
 }
 
 /// Reads the next part of the text. Fails if memory can't be allocated.
 pub fn read_on(check: LongCheck, part: &[u8]) -> Result<LongCheck, AllocError>
-    ensures { IfOk result (ReadsOn part.now check) }
+    ensures { IfOk result (CheckReadsOn part.now check) }
 {
     check.read_part(part)
 }

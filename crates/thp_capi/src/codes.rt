@@ -1,7 +1,7 @@
 //! The results of calls, as numbers.
 ghost use Rattle.std.specs.Prelude.{◌≡◌, Err, OnErr};
 ghost use Rattle.thp_history.specs.declared.refusal.Refusal.TheVariants.{OutOfMemory};
-ghost use Rattle.thp_capi.specs.Codes.{answer_of, answer_with, fault_in, fault_made, IsCode};
+ghost use Rattle.thp_capi.specs.Codes.{answer_of_code, answer_with, fault_in, fault_made, IsCode};
 ghost use Rattle.thp_capi.specs.declared.codes.Fault.TheVariants.{Refused};
 
 use std::alloc::{AllocError, AllocFailed};
@@ -91,7 +91,7 @@ impl<T: Drop> From<AllocFailed<T>> for Fault {
 
 /// Converts a result to its number in `thp_code`.
 pub fn code(answer: Result<(), Fault>) -> u32
-    ensures value { answer_of result ≡ answer }
+    ensures value { answer_of_code result ≡ answer }
     ensures known { IsCode result }
 {
     match answer {
@@ -126,8 +126,8 @@ pub fn code(answer: Result<(), Fault>) -> u32
 /// Stores the value of a result, if it has one, and returns the result's number.
 #[inline(always)]
 pub fn report<T: Copy>(answer: Result<T, Fault>, place: &mut T) -> u32
-    ensures value { answer_with (answer_of result) place.new ≡ answer }
-    ensures kept { OnErr (answer_of result) (place.new ≡ place.old) }
+    ensures value { answer_with (answer_of_code result) place.new ≡ answer }
+    ensures kept { OnErr (answer_of_code result) (place.new ≡ place.old) }
     ensures known { IsCode result }
 {
     match answer {

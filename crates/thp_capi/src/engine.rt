@@ -2,7 +2,7 @@
 ghost use Rattle.std.specs.Prelude.{◌≡◌, ◌<◌, ◌≤◌, None, IsSome, IfOk, IfErr, OnOk, length, true, false, [], ◌∷◌, ◌⊎◌, ◌↔◌, Err};
 ghost use Rattle.thp_history.specs.Prelude.{gain_call, gain_what, is_live, loss_call, loss_what, max_callers, own, queue, subpages, IsShape};
 ghost use Rattle.thp_history.specs.Refusals as call;
-ghost use Rattle.thp_capi.specs.Prelude.{AbandonCall, AllocCall, BackFails, BackRecords, BackReplies, EngineState, IsEngine, LoseCall, NextCall, NoneOpen, OneCall, OthersOpen, ReserveCall, ScanCall, TakeCall, open_of, shape_of, stats_of};
+ghost use Rattle.thp_capi.specs.Prelude.{AbandonCall, AllocCall, BackFails, BackRecords, BackReplies, EngineState, IsEngine, LoseCall, NextCall, NoneOpen, OneCall, OthersOpen, ReserveCall, ScanCall, TakeCall, engine_open_of, shape_with, stats_of};
 ghost use Rattle.thp_capi.specs.Reading.{WhyUncounted, page_state_of};
 ghost use Rattle.thp_journal_writer.specs.Prelude.{journal_text as text_of};
 
@@ -22,7 +22,7 @@ const UNDERUSED_OFF: u32 = u32::MAX;
 
 /// Assembles the shape of a node.
 pub fn shape(blocks: u32, order: u32, underused: u32) -> Shape
-    ensures { result ≡ shape_of blocks order underused }
+    ensures { result ≡ shape_with blocks order underused }
 {
     Shape {
         blocks,
@@ -151,7 +151,7 @@ impl<R: Recorder> Engine<R> {
     fn place(&self, caller: u32) -> Result<usize, Fault>
         ensures at { IfOk result (λ place. place ≡ caller) }
         ensures inside { IfOk result (λ place. place < length self.now.batches) }
-        ensures none { IfErr result (λ fault. (fault ≡ Fault.NoBatch) × (open_of self.now caller ≡ None)) }
+        ensures none { IfErr result (λ fault. (fault ≡ Fault.NoBatch) × (engine_open_of self.now caller ≡ None)) }
     {
         let place = caller as usize;
         (place < self.batches.len())
@@ -172,8 +172,8 @@ impl<R: Recorder> Engine<R> {
 
     /// Returns the remaining pages of the caller's open batch, and closes the batch.
     pub fn put_back(&mut self, caller: u32) -> Result<BackReply, Fault>
-        ensures open { OnOk result (IsSome (open_of self.old caller)) }
-        ensures shut { OnOk result (open_of self.new caller ≡ None) }
+        ensures open { OnOk result (IsSome (engine_open_of self.old caller)) }
+        ensures shut { OnOk result (engine_open_of self.new caller ≡ None) }
         ensures others { OthersOpen caller self.old self.new }
         ensures reply { IfOk result (BackReplies caller self.old) }
         ensures recorded { OnOk result (BackRecords caller self.old self.new) }

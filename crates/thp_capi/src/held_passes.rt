@@ -1,6 +1,6 @@
 //! Creating, dividing and joining what the handles of passes hold, and the end of a cell.
 ghost use Rattle.std.specs.Prelude.{◌≡◌, ◌⊎◌, IfErr, IfOk, OnOk, Some};
-ghost use Rattle.thp_capi.specs.Prelude.{AdjoinHeld, Dismantled, Divided, Divides, Finished, HasOpen, IsCellSize, IsNewPass, IsShut, Joined, NoneOpen, OneCell, held_value, is_counting};
+ghost use Rattle.thp_capi.specs.Prelude.{AdjoinHeld, Dismantled, Divided, Divides, Finished, HasOpen, IsCellSize, IsNewPass, Joined, NoneIsOpen, NoneOpen, OneCell, held_value, is_counting};
 
 use crate::codes::Fault;
 use crate::engine::Engine;
@@ -22,7 +22,7 @@ impl Held<SharedPass<FullLog>, SharedPass<CountOnly>> {
         ensures counting { IfOk result (λ held. is_counting held ≡ counting) }
         ensures made { IfOk result (λ held. IsNewPass shape callers (held_value held).pass) }
         ensures mark { IfOk result (λ held. (held_value held).mark ≡ mark) }
-        ensures shut { IfOk result (λ held. IsShut (held_value held)) }
+        ensures shut { IfOk result (λ held. NoneIsOpen (held_value held)) }
         ensures size { IfOk result (λ held. IsCellSize shape callers) }
         ensures why { IfErr result (λ f. ((f ≡ Fault.BadSize) × (IsCellSize shape callers → ⊥)) ⊎ (f ≡ Fault.Refused Refusal.OutOfMemory)) }
     {

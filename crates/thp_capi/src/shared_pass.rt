@@ -3,7 +3,7 @@ ghost use Rattle.std.specs.Prelude.{◌≡◌, ◌+◌, ◌<◌, ◌≤◌, true
 ghost use Rattle.thp_history.specs.Prelude.{gain_call, gain_what, loss_call, loss_what};
 ghost use Rattle.thp_history.specs.Refusals as call;
 ghost use Rattle.thp_cell.specs.Prelude.{below, from, IsJoined, HasAll, HasCaller};
-ghost use Rattle.thp_capi.specs.Prelude.{Adjoin, Divides, HasOpen, IsCellSize, IsNewPass, IsPart, IsShared, IsShut, OnlyFront, OpenStay, PassAbandon, PassAlloc, PassBack, PassCount, PassLost, PassNext, PassOne, PassScan, PassTake, SharedState};
+ghost use Rattle.thp_capi.specs.Prelude.{Adjoin, Divides, HasOpen, IsCellSize, IsNewPass, IsShared, IsSharedPart, NoneIsOpen, OnlyFront, PassAbandon, PassAlloc, PassBack, PassCount, PassLost, PassNext, PassOne, PassScan, PassTake, SharedOpenStay, SharedState};
 ghost use Rattle.std.specs.Arc.{arc_value};
 
 use crate::codes::Fault;
@@ -41,7 +41,7 @@ impl<R: Recorder> SharedPass<R> {
     pub fn new(alloc: Global, shape: Shape, callers: u32, mark: u64) -> Result<SharedPass<R>, Fault>
         ensures made { IfOk result (λ s. IsNewPass shape callers s.pass) }
         ensures mark { IfOk result (λ s. s.mark ≡ mark) }
-        ensures shut { IfOk result IsShut }
+        ensures shut { IfOk result NoneIsOpen }
         ensures size { IfOk result (λ s. IsCellSize shape callers) }
         ensures why { IfErr result (λ f. ((f ≡ Fault.BadSize) × (IsCellSize shape callers → ⊥)) ⊎ (f ≡ Fault.Refused Refusal.OutOfMemory)) }
     {
@@ -192,8 +192,8 @@ impl<R: Recorder> SharedPass<R> {
         at: u32,
     ) -> Result<(SharedPass<R>, SharedPass<R>), (SharedPass<R>, Fault)>
         ensures divides { IfOk result (λ r. Divides at self.pass) }
-        ensures left { IfOk result (λ r. IsPart (below self.pass at) self r.0) }
-        ensures right { IfOk result (λ r. IsPart (from self.pass at) self r.1) }
+        ensures left { IfOk result (λ r. IsSharedPart (below self.pass at) self r.0) }
+        ensures right { IfOk result (λ r. IsSharedPart (from self.pass at) self r.1) }
         ensures same { IfErr result (λ e. e.0 ≡ self) }
         ensures why { IfErr result (λ e. ((e.1 ≡ Fault.BadCaller) × (Divides at self.pass → ⊥)) ⊎ (e.1 ≡ Fault.Refused Refusal.OutOfMemory)) }
     {
@@ -238,8 +238,8 @@ impl<R: Recorder> SharedPass<R> {
         requires adjacent { self.pass.end ≡ other.pass.first }
         ensures joined { IsJoined self.pass other.pass result.pass }
         ensures mark { result.mark ≡ self.mark }
-        ensures left { OpenStay self result }
-        ensures right { OpenStay other result }
+        ensures left { SharedOpenStay self result }
+        ensures right { SharedOpenStay other result }
     {
         let left = self.pass;
         let pass = self.cell.join(left, other.pass);
@@ -255,7 +255,7 @@ impl<R: Recorder> SharedPass<R> {
     /// has a share of the cell. Otherwise returns the pass and the reason.
     pub fn finish(self) -> Result<Node<R>, (SharedPass<R>, Fault)>
         ensures all { IfOk result (λ node. HasAll self.pass) }
-        ensures shut { IfOk result (λ node. IsShut self) }
+        ensures shut { IfOk result (λ node. NoneIsOpen self) }
         ensures shape { IfOk result (λ node. node.shape ≡ self.pass.shape) }
         ensures journal { IfOk result (λ node. node.journal ≡ self.pass.front) }
         ensures same { IfErr result (λ e. e.0 ≡ self) }

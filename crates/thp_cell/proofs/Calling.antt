@@ -7,7 +7,7 @@ use Rattle.thp_history.specs.declared.refusal.Refusal.TheVariants.{OutOfMemory}
 use Rattle.thp_history.specs.declared.shape.Shape.{Shape}
 use Rattle.thp_history.specs.Prelude.{History, events_of, IsLegal}
 use Rattle.thp_node.specs.Prelude.{BatchState, IsInFront, NodeState, Did, DidAlloc, Refused}
-use Rattle.thp_cell.specs.Prelude.{AllBelow, Since, Adds, Place, pass_state, known_state, HasTaken, IsKept, PassState, HasCaller, part, at_front, Called, Follows, IsRefused}
+use Rattle.thp_cell.specs.Prelude.{AllBelow, Since, ExtendsBy, Place, pass_state, known_state, HasTaken, IsLocked, PassState, HasCaller, part, at_front, Called, Follows, IsRefused}
 use Rattle.atomic_table.specs.Table.{rest}
 use Rattle.atomic_table.specs.Lent.{seat_with}
 use Rattle.thp_cell.proofs.Fronts.{adds_none, adds_by, adds_more, known_more, whole_front}
@@ -18,7 +18,7 @@ use Rattle.thp_cell.proofs.Passes.{events_of-append, events_of_all, events_of_no
 pub record Went (old new : NodeState) (first end : ℕ) : Type 0 where
   pub shape : new.shape ≡ old.shape
   pub legal : IsLegal new.shape new.journal
-  pub adds : Adds first end old.journal new.journal
+  pub adds : ExtendsBy first end old.journal new.journal
 
 went_on : (old new : NodeState) (first end c : ℕ) (es : List Event) → first ≤ c → c < end → Did old new c es → Went old new first end
 went_on old new first end c es from below did = grind (arith, adds_by)
@@ -46,7 +46,7 @@ pub record Holds (keeps : Bool) (p : PassState) (t : Place) (old : NodeState) : 
   pub slot : t.me.1 ≡ (0, old) ∷ []
   pub shape : old.shape ≡ p.shape
   pub since : Since p.first p.end p.front old.journal
-  pub adds : Adds p.first p.end t.me.0.front old.journal
+  pub adds : ExtendsBy p.first p.end t.me.0.front old.journal
   pub legal : IsLegal old.shape old.journal
   pub known : AllBelow p.callers old.journal
 
@@ -55,7 +55,7 @@ pub holds : (keeps : Bool) (p : PassState) (s t : Place) (y : NodeState) → kno
 holds keeps p s t y is has read = grind (arith, same_node)
 
 -- the node may be released, or kept, as the call left it
-pub may_leave : {keeps : Bool} (p : PassState) (t : Place) (old new : NodeState) → Holds keeps p t old → Went old new p.first p.end → IsKept (seat_with t 0 new)
+pub may_leave : {keeps : Bool} (p : PassState) (t : Place) (old new : NodeState) → Holds keeps p t old → Went old new p.first p.end → IsLocked (seat_with t 0 new)
 may_leave p t old new held went =
     let is = sym held.same in record {
       lent = record {
@@ -66,7 +66,7 @@ may_leave p t old new held went =
         slot = ap (λ l. (0, new) ∷ rest l) held.slot;
         shape = went.shape ∙ (held.shape ∙ ap (λ (q : PassState). q.shape) is);
         legal = went.legal;
-        adds = subst (λ (q : PassState). Adds q.first q.end t.me.0.front new.journal) is (adds_more p.first p.end t.me.0.front old.journal new.journal held.adds went.adds);
+        adds = subst (λ (q : PassState). ExtendsBy q.first q.end t.me.0.front new.journal) is (adds_more p.first p.end t.me.0.front old.journal new.journal held.adds went.adds);
       };
       known = subst (λ (q : PassState). AllBelow q.callers new.journal) is (known_more p.first p.end p.callers old.journal new.journal held.inside held.known went.adds);
     }

@@ -4,19 +4,19 @@ use Rattle.atomic_table.specs.Table.{rest}
 use Rattle.atomic_table.specs.Lent.{seat_with}
 use Rattle.thp_history.specs.Prelude.{IsLegal}
 use Rattle.thp_node.specs.Prelude.{NodeState}
-use Rattle.thp_cell.specs.Prelude.{Adds, AllBelow, at_front, keeping, Follows, PassState, Place, returning_node, front_in, pass_state, known_state, IsFree, IsIn, IsKept, IsNumbered, HasTaken}
+use Rattle.thp_cell.specs.Prelude.{ExtendsBy, AllBelow, at_front, keeping, Follows, PassState, Place, returning_node, seat_front, pass_state, known_state, IsFree, IsIn, IsLocked, IsNumbered, HasTaken}
 use Rattle.thp_cell.proofs.Fronts.{since_same}
 use Rattle.thp_cell.proofs.Passes.{follows}
 
 pub in_free : (keeps : Bool) (s : Place) → keeps ≡ false → IsIn keeps s → IsFree s
 in_free keeps s is held = subst (λ b. IsIn b s) is held
 
-pub in_kept : (keeps : Bool) (s : Place) → keeps ≡ true → IsIn keeps s → IsKept s
+pub in_kept : (keeps : Bool) (s : Place) → keeps ≡ true → IsIn keeps s → IsLocked s
 in_kept keeps s is held = subst (λ b. IsIn b s) is held
 
 -- a seat without the slot knows its front
 pub free_state : (keeps : Bool) (s : Place) → s.me.1 ≡ [] → known_state keeps s ≡ pass_state keeps s
-free_state keeps s none = ap (λ l. at_front (pass_state keeps s) (front_in l s.me.0.front)) none
+free_state keeps s none = ap (λ l. at_front (pass_state keeps s) (seat_front l s.me.0.front)) none
 
 -- the seat of a pass that was p and keeps no node
 pub returned : (keeps : Bool) (s : Place) (p : PassState) → known_state keeps s ≡ returning_node p → IsIn keeps s → IsFree s × (pass_state false s ≡ returning_node p)
@@ -26,11 +26,11 @@ returned keeps s p is held =
     (free, sym (free_state false s free.no_slot) ∙ (ap (λ b. known_state b s) (sym k) ∙ is))
 
 -- and one with the slot the node's journal
-kept_front : (s : Place) (node : NodeState) → s.me.1 ≡ (0, node) ∷ [] → front_in s.me.1 s.me.0.front ≡ node.journal
-kept_front s node slot = ap (λ l. front_in l s.me.0.front) slot
+kept_front : (s : Place) (node : NodeState) → s.me.1 ≡ (0, node) ∷ [] → seat_front s.me.1 s.me.0.front ≡ node.journal
+kept_front s node slot = ap (λ l. seat_front l s.me.0.front) slot
 
 -- nothing changed for a pass that keeps its node
-pub follows_kept : (keeps : Bool) (p : PassState) (s : Place) → known_state keeps s ≡ p → IsKept s → Follows p p
+pub follows_kept : (keeps : Bool) (p : PassState) (s : Place) → known_state keeps s ≡ p → IsLocked s → Follows p p
 follows_kept keeps p s is k =
     let lent = k.lent in
     let front = kept_front s lent.node lent.slot in
@@ -39,7 +39,7 @@ follows_kept keeps p s is k =
     (subst (IsLegal s.me.0.shape) (sym front) (subst (λ z. IsLegal z lent.node.journal) lent.shape lent.legal)))
 
 -- a node that was taken may be kept
-pub kept_of : (p : PassState) (s : Place) → HasTaken p s → IsKept s
+pub kept_of : (p : PassState) (s : Place) → HasTaken p s → IsLocked s
 kept_of p s has =
     let is = sym has.same in record {
       lent = record {
@@ -50,7 +50,7 @@ kept_of p s has =
         slot = has.slot;
         shape = has.shape ∙ ap (λ (q : PassState). q.shape) is;
         legal = has.legal;
-        adds = subst (λ (q : PassState). Adds q.first q.end s.me.0.front has.node.journal) is has.adds;
+        adds = subst (λ (q : PassState). ExtendsBy q.first q.end s.me.0.front has.node.journal) is has.adds;
       };
       known = subst (λ (q : PassState). AllBelow q.callers has.node.journal) is has.known;
     }

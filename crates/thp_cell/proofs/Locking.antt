@@ -10,7 +10,7 @@ use Rattle.thp_history.specs.declared.shape.Shape.{Shape}
 use Rattle.thp_history.specs.Prelude.{History, IsLegal, queue}
 use Rattle.thp_history.proofs.LegalSteps.{legal_front}
 use Rattle.thp_node.specs.Prelude.{NodeState}
-use Rattle.thp_cell.specs.Prelude.{OldFront, SeatKnowledge, Since, AllBelow, holding, OldFrontAgrees, SeatAgrees, SeatsAgree, Home, RuleHolds, SeatValue, seat_with_front, Took, Locked, Counted, Looked}
+use Rattle.thp_cell.specs.Prelude.{OldFront, SeatKnowledge, Since, AllBelow, holding, OldFrontAgrees, SeatAgrees, SeatsAgree, Home, RuleHolds, SeatValue, seat_with_front, SeatTook, Locked, Counted, Looked}
 use Rattle.thp_cell.proofs.Fronts.{since_same, between, below_end}
 use Rattle.thp_cell.proofs.Sums.{sum_set, bit_set}
 use Rattle.thp_cell.proofs.Seating.{Cell, reseated, stays, nobody}
@@ -40,7 +40,7 @@ module _ (n : ℕ) (s : Shape) where
       let now : sum_by holding (set t.views id w) ≡ 1 = omega arith in
       let to : bit_or x 1 ≡ 2 * q + sum_by holding (set t.views id w) = omega arith in
       let mine : SeatsAgree n s r.history w = subst (λ l. SeatsAgree n s r.history (seat_with_front v true l)) (sym m.journal) (knows_all r.history v true was live) in
-      let took : Took (v, []) (w, (0, node) ∷ []) = record {
+      let took : SeatTook (v, []) (w, (0, node) ∷ []) = record {
         node = node;
         now = refl;
         shape = m.shape ∙ sym was.shape;

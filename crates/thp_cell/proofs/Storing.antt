@@ -6,7 +6,7 @@ use Rattle.atomic_table.specs.Table.{gives, rest, step, Allows}
 use Rattle.thp_history.specs.declared.shape.Shape.{Shape}
 use Rattle.thp_history.specs.Prelude.{IsLegal, queue}
 use Rattle.thp_node.specs.Prelude.{NodeState}
-use Rattle.thp_cell.specs.Prelude.{SeatKnowledge, Adds, holding, RuleHolds, Place, IsFree, IsLent, HasSlot, SeatValue, seat_with_front, Stored}
+use Rattle.thp_cell.specs.Prelude.{SeatKnowledge, ExtendsBy, holding, RuleHolds, Place, IsFree, IsLent, HasSlot, SeatValue, seat_with_front, Stored}
 use Rattle.thp_cell.proofs.Fronts.{since_same}
 use Rattle.thp_cell.proofs.Sums.{sum_set, share_of_one}
 use Rattle.thp_cell.proofs.Seating.{reseated}
@@ -17,7 +17,7 @@ same_node x y e = grind arith
 
 module _ (n : ℕ) (s : Shape) where
   stores : (slots id : ℕ) (v : SeatKnowledge) (node : NodeState) (new : ℕ) → v.has_node ≡ true → v.first < v.end → node.shape ≡ v.shape → IsLegal node.shape node.journal → length (queue node.shape node.journal) < 2 ^ 32
-      → new ≡ 2 * length (queue node.shape node.journal) → Adds v.first v.end v.front node.journal
+      → new ≡ 2 * length (queue node.shape node.journal) → ExtendsBy v.first v.end v.front node.journal
       → Allows (RuleHolds n s) slots id (v, (0, node) ∷ []) 0 (λ _. new) (λ _. Stored (step slots 0 new 0 none) (v, (0, node) ∷ []) new)
   stores slots id v node new mine live shape legal short is adds t r wide at small =
       let was = (r.seats id v at).knows live in
@@ -34,7 +34,7 @@ module _ (n : ℕ) (s : Shape) where
         w,
         gives,
         tt,
-        reseated n s t r id v w node.journal (set t.words 0 new) (set t.homes 0 (some node)) at (inr (mine, subst (λ l. Adds v.first v.end l node.journal) (was.at_node mine) adds)) refl refl live
+        reseated n s t r id v w node.journal (set t.words 0 new) (set t.homes 0 (some node)) at (inr (mine, subst (λ l. ExtendsBy v.first v.end l node.journal) (was.at_node mine) adds)) refl refl live
             (subst (λ z. IsLegal z node.journal) shape' legal) short'
             (ap (λ l. set l 0 new) r.word ∙ ap (λ (y : ℕ). y ∷ []) (omega arith))
             record {
@@ -58,7 +58,7 @@ module _ (n : ℕ) (s : Shape) where
 
   -- the same, of a seat that is known by its parts: the node y is what its slot was read to have
   pub stores_at : (slots id : ℕ) (m : SeatValue) (node y : NodeState) (new : ℕ) → m.1 ≡ (0, node) ∷ [] → m.1 ≡ (0, y) ∷ [] → m.0.has_node ≡ true → m.0.first < m.0.end → node.shape ≡ m.0.shape
-      → IsLegal node.shape node.journal → Adds m.0.first m.0.end m.0.front node.journal → length (queue y.shape y.journal) < 2 ^ 32 → new ≡ 2 * length (queue y.shape y.journal)
+      → IsLegal node.shape node.journal → ExtendsBy m.0.first m.0.end m.0.front node.journal → length (queue y.shape y.journal) < 2 ^ 32 → new ≡ 2 * length (queue y.shape y.journal)
       → Allows (RuleHolds n s) slots id (m.0, (0, y) ∷ rest m.1) 0 (λ _. new) (λ _. Stored (step slots 0 new 0 none) (m.0, (0, y) ∷ rest m.1) new)
   stores_at slots id m node y new out read mine live shape legal adds short word =
       let none_left : rest m.1 ≡ [] = ap rest out in

@@ -37,7 +37,7 @@ pub record Since (first end : ℕ) (front h : History) : Type 0 where
   pub not_own : NoneOf first end others
 
 -- the history is the front, extended by events of these callers only
-pub record Adds (first end : ℕ) (front h : History) : Type 0 where
+pub record ExtendsBy (first end : ℕ) (front h : History) : Type 0 where
   pub own : List Event
   pub goes_on : h ≡ front ++ own
   pub by_own : OnlyOf first end own

@@ -5,7 +5,7 @@ use Rattle.thp_history.specs.Prelude.{max_callers, max_order, History, IsLegal}
 use Rattle.thp_node.specs.Prelude.{NodeState}
 use Rattle.thp_cell.specs.declared.rule.SeatKnowledge.{SeatKnowledge}
 use Rattle.thp_cell.specs.Calls.{at_front}
-use Rattle.thp_cell.specs.Rule.{Adds, AllBelow, Since}
+use Rattle.thp_cell.specs.Rule.{AllBelow, ExtendsBy, Since}
 use Rattle.thp_cell.specs.Views.{PassState, HasAll}
 
 abbrev pub Place : Type 0
@@ -24,13 +24,13 @@ pass_state keeps s = record {
 }
 
 -- the history that a seat's holder knows: if the seat has the slot, the journal of the node in it
-abbrev pub front_in : List (ℕ × NodeState) → History → History
-front_in [] front = front
-front_in ((k, node) ∷ slots) front = node.journal
+abbrev pub seat_front : List (ℕ × NodeState) → History → History
+seat_front [] front = front
+seat_front ((k, node) ∷ slots) front = node.journal
 
 -- what the holder of a seat knows
 abbrev pub known_state : Bool → Place → PassState
-known_state keeps s = at_front (pass_state keeps s) (front_in s.me.1 s.me.0.front)
+known_state keeps s = at_front (pass_state keeps s) (seat_front s.me.1 s.me.0.front)
 
 -- the seat has callers, all of them the cell's, and a legal front, and does not have the slot
 pub record IsFree (s : Place) : Type 0 where
@@ -55,7 +55,7 @@ pub record IsLent (s : Place) : Type 0 where
   pub slot : s.me.1 ≡ (0, node) ∷ []
   pub shape : node.shape ≡ s.me.0.shape
   pub legal : IsLegal node.shape node.journal
-  pub adds : Adds s.me.0.first s.me.0.end s.me.0.front node.journal
+  pub adds : ExtendsBy s.me.0.first s.me.0.end s.me.0.front node.journal
 
 -- the seat has the slot, with the node whose journal is the front
 pub record HoldsNode (s : Place) : Type 0 where
@@ -69,13 +69,13 @@ pub record HoldsNode (s : Place) : Type 0 where
   pub legal : IsLegal node.shape node.journal
 
 -- the seat has the slot, and no event of its node has a caller outside the cell
-pub record IsKept (s : Place) : Type 0 where
+pub record IsLocked (s : Place) : Type 0 where
   pub lent : IsLent s
   pub known : AllBelow s.me.0.callers lent.node.journal
 
 -- the seat of a pass that keeps the node or not
 abbrev pub IsIn : Bool → Place → Type 0
-IsIn true s = IsKept s
+IsIn true s = IsLocked s
 IsIn false s = IsFree s
 
 -- The seat has the slot with the node, taken or kept by a pass that was p. The journal is the front of the pass, extended by
@@ -89,7 +89,7 @@ pub record HasTaken (p : PassState) (s : Place) : Type 0 where
   pub slot : s.me.1 ≡ (0, node) ∷ []
   pub shape : node.shape ≡ p.shape
   pub since : Since p.first p.end p.front node.journal
-  pub adds : Adds p.first p.end s.me.0.front node.journal
+  pub adds : ExtendsBy p.first p.end s.me.0.front node.journal
   pub legal : IsLegal node.shape node.journal
   pub known : AllBelow p.callers node.journal
 

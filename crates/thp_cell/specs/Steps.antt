@@ -21,12 +21,12 @@ abbrev pub seat_with_front : SeatKnowledge → Bool → History → SeatKnowledg
 seat_with_front v has_node h = record v { has_node = has_node; front = h; old_fronts = [] }
 
 -- the seat has all callers
-pub record IsWhole (v : SeatKnowledge) : Type 0 where
+pub record SeatIsWhole (v : SeatKnowledge) : Type 0 where
   pub from : v.first ≡ 0
   pub to : v.end ≡ v.callers
 
 -- the seat has the slot, with the node whose journal is its new front
-pub record Took (m m' : SeatValue) : Type 0 where
+pub record SeatTook (m m' : SeatValue) : Type 0 where
   pub node : NodeState
   pub now : m' ≡ (seat_with_front m.0 true node.journal, (0, node) ∷ [])
   pub shape : node.shape ≡ m.0.shape
@@ -37,11 +37,11 @@ pub record Took (m m' : SeatValue) : Type 0 where
 -- nothing changed; another seat has the node
 pub record WasBusy (m m' : SeatValue) : Type 0 where
   pub same : m' ≡ m
-  pub shared : IsWhole m.0 → ⊥
+  pub shared : SeatIsWhole m.0 → ⊥
 
 -- the lock step, which found the bit clear or set
 pub record Locked (st : CellStep) (m : SeatValue) (found : ℕ) (m' : SeatValue) : Type 0 where
-  pub clear : found % 2 ≡ 0 → Took m m'
+  pub clear : found % 2 ≡ 0 → SeatTook m m'
   pub set : found % 2 ≢ 0 → WasBusy m m'
 
 -- the store that ends a hold: the front is the journal of the node in the slot
@@ -80,8 +80,8 @@ abbrev pub old_front : SeatKnowledge → OldFront
 old_front v = record { first = v.first; end = v.end; front = v.front }
 
 -- a join: the callers of both, the longer front, and both old fronts until the following load
-abbrev pub joined : SeatKnowledge → SeatKnowledge → SeatKnowledge
-joined v w = record v {
+abbrev pub joined_seats : SeatKnowledge → SeatKnowledge → SeatKnowledge
+joined_seats v w = record v {
   end = w.end;
   has_node = false;
   front = longer v.front w.front;

@@ -6,8 +6,8 @@ ghost use Rattle.thp_cell.specs.Views.{HasCaller, HasAll, part};
 ghost use Rattle.thp_cell.specs.Calls.{Follows, PartsStay, BatchesStay, IsBusy, IsJoined, below, from, keeping, returning_node};
 ghost use Rattle.atomic_table.specs.Seated.{TableId};
 ghost use Rattle.std.specs.Borrow.{sem};
-ghost use Rattle.thp_cell.specs.Steps.{seat_with_front, left_of, right_of, Took, WasBusy};
-ghost use Rattle.thp_cell.specs.Seats.{front_in, known_state, IsFree, IsIn, IsKept, IsLent, HasSlot, HasTaken, FoundBusy};
+ghost use Rattle.thp_cell.specs.Steps.{seat_with_front, left_of, right_of, SeatTook, WasBusy};
+ghost use Rattle.thp_cell.specs.Seats.{seat_front, known_state, IsFree, IsIn, IsLocked, IsLent, HasSlot, HasTaken, FoundBusy};
 ghost use Rattle.thp_cell.specs.Lending.{lends_node};
 
 mod batch_calls;
@@ -311,7 +311,7 @@ impl<R: Recorder> NodeCell<R> {
     #[inline(always)]
     fn end_call(&self, seat: &mut Seat<Node<R>, SeatKnowledge>, keeps: bool)
         requires cell { seat.old.table_id ≡ self.now }
-        requires kept { IsKept seat.old }
+        requires kept { IsLocked seat.old }
         ensures same_cell { seat.new.table_id ≡ seat.old.table_id }
         ensures is { IsIn keeps seat.new }
         ensures same { known_state keeps seat.new ≡ known_state keeps seat.old }
@@ -326,7 +326,7 @@ impl<R: Recorder> NodeCell<R> {
         requires cell { seat.old.table_id ≡ self.now }
         requires free { IsFree seat.old }
         ensures same_cell { seat.new.table_id ≡ seat.old.table_id }
-        ensures took { result ≡ true → Took seat.old.me seat.new.me }
+        ensures took { result ≡ true → SeatTook seat.old.me seat.new.me }
         ensures busy { result ≡ false → WasBusy seat.old.me seat.new.me }
     {
         self.table.shared.fetch_or::<Lock>(seat, 0, 1) % 2 == 0

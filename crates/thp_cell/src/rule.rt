@@ -2,7 +2,7 @@
 //! each kind of step adds to a seat. The definitions are in `specs/Rule.antt` and `specs/Steps.antt`.
 ghost use Rattle.std.specs.Prelude.{ℕ};
 ghost use Rattle.thp_cell.specs.Rule.{RuleHolds, root};
-ghost use Rattle.thp_cell.specs.Steps.{Locked, Stored, Counted, Looked, left_of, right_of, joined, spent};
+ghost use Rattle.thp_cell.specs.Steps.{Locked, Stored, Counted, Looked, left_of, right_of, joined_seats, spent};
 
 use atomic_table::{Join, Play, Split, TableRule};
 use std::collections::LinkedList;
@@ -109,7 +109,7 @@ impl<C: Cut> Split<SeatKnowledge> for SplitAt<C> {
 pub struct Both;
 
 impl Join<SeatKnowledge> for Both {
-    ghost both = { joined };
+    ghost both = { joined_seats };
 
     ghost spent = { spent };
 }

@@ -1,4 +1,4 @@
--- What is told as expected fits.
+-- What is reported as expected fits.
 use Rattle.std.proofs.Common.{◌≡◌, ◌≢◌, ℕ, ◌<◌, Bool, true, false, not, ◌||◌, List, Some, arith, ◌⊎◌, slice_get}
 use Rattle.thp_history.specs.declared.events.Outcome.{Outcome}
 use Rattle.thp_history.specs.declared.events.What.{What}

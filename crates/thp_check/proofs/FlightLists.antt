@@ -4,7 +4,7 @@ use Rattle.std.proofs.lemmas.Bool.Decides.{eqb_tells}
 use Rattle.std.proofs.lemmas.List.Elements.{filter-append, Contains-push_cases}
 use Rattle.thp_links.specs.declared.link.Link.{Link}
 use Rattle.thp_links.specs.declared.link.TheConstants.{NIL}
-use Rattle.thp_links.specs.Prelude.{without, Stands, SameOutside, between}
+use Rattle.thp_links.specs.Prelude.{without_index, Stands, SameOutside, between}
 use Rattle.thp_links.proofs.Members.{empty_from_first, Contains-nil, Contains-head, Contains-behind, Contains-cons_cases, Contains-from_without}
 use Rattle.thp_links.proofs.OneTable.{Stands-kept, Stands-inside}
 use Rattle.thp_history.proofs.ListPlaces.{append_none}
@@ -165,7 +165,7 @@ module _ (cs : List ℕ) (ls : List (List ℕ)) (links : List Link) (m : AreLink
         | inr e ↦ others k x i (sym e)
       ]
 
-    -- the same, where the list and its place are told by equations
+    -- the same, where the list and its place are given by equations
     module _ (k : ℕ) (ys : List ℕ) (place : k ≡ c % 64) (is : ys ≡ longer) where
       pub joined_linked : (new : List Link) → Stands ys new → SameOutside ys links new → AreLinked (slice_set cs b c) (slice_set ls k ys) new
       joined_linked new stands outside = grind (arith, slice_set, joins_linked)
@@ -177,7 +177,7 @@ module _ (cs : List ℕ) (ls : List (List ℕ)) (links : List Link) (m : AreLink
   -- a block leaves the flight of caller c
   module _ (b c : ℕ) (there : Contains (list_at ls (c % 64)) b) (its : caller_at cs b ≡ c) where
     abbrev shorter : List ℕ
-    shorter = without b (list_at ls (c % 64))
+    shorter = without_index b (list_at ls (c % 64))
 
     abbrev left : FlightsState
     left = record { callers = cs; lists = slice_set ls (c % 64) shorter }
@@ -208,7 +208,7 @@ module _ (cs : List ℕ) (ls : List (List ℕ)) (links : List Link) (m : AreLink
           ];
     }
 
-    -- the same, where the list and its place are told by equations
+    -- the same, where the list and its place are given by equations
     module _ (k : ℕ) (ys : List ℕ) (place : k ≡ c % 64) (is : ys ≡ shorter) where
       pub left_linked : (new : List Link) → Stands ys new → SameOutside (list_at ls (c % 64)) links new → AreLinked cs (slice_set ls k ys) new
       left_linked new stands outside = grind (arith, slice_set, leaves_linked)
@@ -313,12 +313,12 @@ module _ (cs : List ℕ) (ls : List (List ℕ)) (links : List Link) (m : AreLink
   all_passed k past = ap (filter is_its) (take_all its_list k (omega (arith, past, ap (λ (ys : List ℕ). length ys) list_is)))
 
   pub next_after : (k b v : ℕ) → b ≡ get_or its_list k NIL → k < length xs → IfSome (slice_get links b) (λ l. v ≡ l.next) → v ≡ get_or its_list (k + 1) NIL
-  next_after k b v next below told =
+  next_after k b v next below reported =
       let P : Option Link → Type 0 = λ o. IfSome o (λ l. v ≡ l.next) in
       let ys : List ℕ = list_at ls (c % 64) in
       let w = next_at links NIL ys k (m.each_stands (c % 64)).segment (omega (arith, below, ap (λ (zs : List ℕ). length zs) read)) in
       let at : slice_get links b ≡ Some (between w.0 (get_or ys (suc k) NIL)) = ap (slice_get links) (next ∙ ap (λ (zs : List ℕ). get_or zs k NIL) (sym list_is ∙ read)) ∙ w.1 in
-      subst P at told ∙ ap (λ (zs : List ℕ). get_or zs (suc k) NIL) (sym read ∙ list_is) ∙ ap (λ j. get_or its_list j NIL) (sym (add-one k))
+      subst P at reported ∙ ap (λ (zs : List ℕ). get_or zs (suc k) NIL) (sym read ∙ list_is) ∙ ap (λ j. get_or its_list j NIL) (sym (add-one k))
 
 -- lists with no block
 abbrev pub no_blocks : List ℕ

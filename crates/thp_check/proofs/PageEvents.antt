@@ -17,9 +17,9 @@ use Rattle.thp_history.specs.declared.page_call.Done.{Done}
 use Rattle.thp_history.specs.declared.page_call.Gain.{Gain}
 use Rattle.thp_history.specs.declared.page_call.Loss.{Loss}
 use Rattle.thp_history.specs.declared.page_call.PageCall.TheVariants as either
-use Rattle.thp_live_pages.specs.Prelude.{IsSlot, standing_of, PageStoreState, Lost, batch_of}
+use Rattle.thp_live_pages.specs.Prelude.{IsSlot, standing_of, PageStoreState, Lost, batch_left}
 use Rattle.thp_live_pages.proofs.Homing.{Homed}
-use Rattle.thp_live_pages.proofs.PageEvents.{ByOutcome, by_outcome, tallies_loss, outcome_told}
+use Rattle.thp_live_pages.proofs.PageEvents.{ByOutcome, by_outcome, tallies_loss, outcome_reported}
 use Rattle.thp_live_pages.proofs.Standings.{standing_flying}
 use Rattle.thp_check.specs.Prelude.{flight_left}
 
@@ -38,17 +38,17 @@ loss_allowed s h c p x o r f = grind arith
 loss_gives : (s : Shape) (h : History) (c p : ℕ) (l : Loss) (o : Outcome) (r : List Bool) → Fits s h (by c (loss_what l p o r)) → Gives s h (h ++ by c (loss_what l p o r) ∷ []) p o r
 loss_gives s h c p x o r f = grind arith
 
--- an event of that loss that fits tells no other outcome and no other frames
-pub loss_told : (s : Shape) (h : History) (c b : ℕ) (x : Slot) (l : Loss) (closed : Bool) (old new : PageStoreState) (done : Done) (left : Option ℕ) (o : Outcome) (set : List Bool) → Homed s h → IsSlot s h b x →
+-- an event of that loss that fits reports no other outcome and no other frames
+pub loss_reported : (s : Shape) (h : History) (c b : ℕ) (x : Slot) (l : Loss) (closed : Bool) (old new : PageStoreState) (done : Done) (left : Option ℕ) (o : Outcome) (set : List Bool) → Homed s h → IsSlot s h b x →
     closed ≡ is_closed h → Lost l closed x old new b done left → Fits s h (by c (loss_what l x.id o set)) → (o ≡ done.outcome) × (set ≡ done.released)
-loss_told s h c b x l closed old new done left o set homed was shut lost f =
+loss_reported s h c b x l closed old new done left o set homed was shut lost f =
     let w : What = loss_what l x.id o set in
     let e : Event = by c w in
     let by : ByOutcome s w x.id o = by_outcome s l x.id o set in
     let live : is_live h x.id ≡ true = (homed.from x.id b was.home).live in
     let gives : Gives s h (h ++ e ∷ []) x.id o set = loss_gives s h c x.id l o set f in
     let after : Tallies s (h ++ e ∷ []) x.id lost.page = tallies_loss s h c x.id l o set x.page lost.page was.tallies lost.how in
-    let same : o ≡ done.outcome = gives.outcome_is ∙ outcome_is s h (h ++ e ∷ []) x.id x.page lost.page was.tallies after ∙ sym (outcome_told s h b x l closed old new done left was shut lost) in (
+    let same : o ≡ done.outcome = gives.outcome_is ∙ outcome_is s h (h ++ e ∷ []) x.id x.page lost.page was.tallies after ∙ sym (outcome_reported s h b x l closed old new done left was shut lost) in (
       same,
       gives.set_is ∙ released_is s h (h ++ e ∷ []) x.id o x.page lost.page was.tallies after live (lives_by h e x.id o live (by.no_alloc x.id) (by.freed x.id))
           ∙ ap (page_released x.page lost.page) same ∙ sym lost.released_is,
@@ -59,7 +59,7 @@ pub loss_flight_by : (h : History) (c p : ℕ) (l : Loss) (o : Outcome) (r : Lis
 loss_flight_by h c p x o r d = grind (arith, flight_push)
 
 -- a freed page leaves the flight in which it stands, and no other
-freed_leaves : (s : Shape) (h : History) (p d : ℕ) → Sound s h → without p (flight h d) ≡ flight_left (batch_of (standing_of s h p)) p d (flight h d)
+freed_leaves : (s : Shape) (h : History) (p d : ℕ) → Sound s h → without p (flight h d) ≡ flight_left (batch_left (standing_of s h p)) p d (flight h d)
 freed_leaves s h p d sound = grind (arith, by_bool, standing_flying, eq-eqb, without_none, times_hasnt, nat_eq)
 
 -- the flights after a loss
@@ -81,8 +81,8 @@ frames_in (what.Unpin o p set) = set
 frames_in w = []
 
 -- those of the event of a loss
-pub told_by : (l : Loss) (p : ℕ) (o : Outcome) (set : List Bool) → (outcome_in (loss_what l p o set) ≡ o) × (frames_in (loss_what l p o set) ≡ set)
-told_by x p o set = grind arith
+pub reported_by : (l : Loss) (p : ℕ) (o : Outcome) (set : List Bool) → (outcome_in (loss_what l p o set) ≡ o) × (frames_in (loss_what l p o set) ≡ set)
+reported_by x p o set = grind arith
 
 -- the event of a loss, by its page and call
 pub recorded_loss : (w : What) (p : ℕ) (l : Loss) → recorded_call w ≡ Some (p, either.Loss l) → w ≡ loss_what l p (outcome_in w) (frames_in w)

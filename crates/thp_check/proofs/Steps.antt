@@ -14,7 +14,7 @@ use Rattle.thp_history.proofs.OnePlace.{flies_live}
 use Rattle.thp_history.proofs.Pushes.{count_same, count_more, some_same, some_event_push}
 use Rattle.thp_page.specs.Prelude.{slot_at, HoldsPage, Slot}
 use Rattle.thp_history.specs.declared.page_call.Done.{Done}
-use Rattle.thp_live_pages.specs.Prelude.{PageStoreState, AtSlot, Edits, Lost, Placed, IsNode}
+use Rattle.thp_live_pages.specs.Prelude.{PageStoreState, AtSlot, Edits, Lost, IsPlaced, IsNode}
 use Rattle.thp_live_pages.proofs.Admitting.{Found, found, not_live}
 use Rattle.thp_live_pages.proofs.Closing.{allowed_alloc, allowed_close, next_is_new}
 use Rattle.thp_live_pages.proofs.Homing.{Homed, legal_homed, block_push, block_taken}
@@ -27,7 +27,7 @@ use Rattle.thp_history.specs.declared.page_call.PageCall.TheVariants as either
 use Rattle.thp_check.specs.Prelude.{NodeState, FlightsState, blocks_in, flight_left, Keeps, Means, IsMisfit}
 use Rattle.thp_check.specs.declared.misfit.Misfit.TheVariants as misfit
 use Rattle.thp_check.proofs.FlightBlocks.{LieIn, unmoved, departed, gain_home, loss_flying_home}
-use Rattle.thp_check.proofs.PageEvents.{gain_flight, loss_told, loss_flight}
+use Rattle.thp_check.proofs.PageEvents.{gain_flight, loss_reported, loss_flight}
 use Rattle.thp_check.proofs.Reasons.{gain_misfit, loss_misfit, loss_other, closed_again}
 
 no_both : (z : Bool) → z ≡ false → z ≡ true → ⊥
@@ -79,20 +79,20 @@ module _ (s : Shape) (h : History) (c p b : ℕ) (old : NodeState) (m : Means s 
 
   -- a page that refuses what the event says
   pub gain_refused : (g : Gain) (r : Refusal) → AtSlot old.places.table b (λ x. (q : ℕ) → Some r ≡ page_refusal x.page (gain_call g q)) → IsMisfit s h (by c (gain_what g p)) (misfit.Refused r)
-  gain_refused g r told = gain_misfit s h c p g r (gain_refusal g ∙ sym (told there.slot there.at p))
+  gain_refused g r reported = gain_misfit s h c p g r (gain_refusal g ∙ sym (reported there.slot there.at p))
 
   pub loss_refused : (l : Loss) (o : Outcome) (set : List Bool) (r : Refusal) → AtSlot old.places.table b (λ x. (q : ℕ) → Some r ≡ page_refusal x.page (loss_call l q)) →
       IsMisfit s h (by c (loss_what l p o set)) (misfit.Refused r)
-  loss_refused l o set r told = loss_misfit s h c p l o set r (loss_refusal l ∙ sym (told there.slot there.at p))
+  loss_refused l o set r reported = loss_misfit s h c p l o set r (loss_refusal l ∙ sym (reported there.slot there.at p))
 
   -- a page that gained
   pub gain_goes : (g : Gain) (new : NodeState) → AtSlot old.places.table b (λ x. (q : ℕ) → None ≡ page_refusal x.page (gain_call g q)) →
       AtSlot old.places.table b (λ x. (t : PageState) × Gains g x.page t × Edits old.places new.places b (Some (record x { page = t })) old.places.queue 0) →
       new.shape ≡ old.shape → new.flights ≡ old.flights → new.next ≡ old.next → new.closed ≡ old.closed → Fits s h (by c (gain_what g p)) × Keeps s (h ++ by c (gain_what g p) ∷ []) new
-  gain_goes g new told did shape fs next closed =
+  gain_goes g new reported did shape fs next closed =
       let x : Slot = there.slot in
       let gives = did x there.at in
-      let allowed : refusal s h (gain_call g x.id) ≡ None = ap (λ q. refusal s h (gain_call g q)) there.id_is ∙ gain_refusal g ∙ sym (told x there.at p) in
+      let allowed : refusal s h (gain_call g x.id) ≡ None = ap (λ q. refusal s h (gain_call g q)) there.id_is ∙ gain_refusal g ∙ sym (reported x there.at p) in
       let w = gained s h c b x gives.0 g old.places new.places m.kept.node there.at allowed gives.1 gives.2 in
       let P : ℕ → Type 0 = λ q. Fits s h (by c (gain_what g q)) × Keeps s (h ++ by c (gain_what g q) ∷ []) new in
       subst P there.id_is (
@@ -101,7 +101,7 @@ module _ (s : Shape) (h : History) (c p b : ℕ) (old : NodeState) (m : Means s 
             (ap (λ (f : FlightsState). length f.callers) fs) (plain_gain g x.id).0 (plain_gain g x.id).1 shape next closed,
       )
 
-  -- a page that lost, where the event tells what came of it
+  -- a page that lost, where the event reports what came of it
   pub loss_goes : (l : Loss) (o : Outcome) (set : List Bool) (new : NodeState) (done : Done) (left : Option ℕ) → ((x : Slot) → slot_at old.places.table b ≡ Some x → (q : ℕ) → None ≡ page_refusal x.page (loss_call l q)) →
       AtSlot old.places.table b (λ x. Lost l old.closed x old.places new.places b done left) → ((d : ℕ) → blocks_in new.flights d ≡ flight_left left b d (blocks_in old.flights d)) → length new.flights.callers ≡ length old.flights.callers → new.shape ≡ old.shape → new.next ≡ old.next → new.closed ≡ old.closed →
       done.outcome ≡ o → done.released ≡ set → Fits s h (by c (loss_what l p o set)) × Keeps s (h ++ by c (loss_what l p o set) ∷ []) new
@@ -120,16 +120,16 @@ module _ (s : Shape) (h : History) (c p b : ℕ) (old : NodeState) (m : Means s 
       (fits.fits, goes_on s h (by c (loss_what l x.id done.outcome done.released)) old new m node flown size (plain_loss l x.id done.outcome done.released).0 (plain_loss l x.id done.outcome done.released).1 shape next closed) in
       subst (λ t. P p o t) given (subst (λ u. P p u done.released) same (subst (λ q. P q done.outcome done.released) there.id_is here))
 
-  -- where the event fits, it tells what came of the page
-  pub loss_tells : (l : Loss) (o : Outcome) (set : List Bool) (new : PageStoreState) (done : Done) (left : Option ℕ) →
+  -- where the event fits, it reports what came of the page
+  pub loss_reports : (l : Loss) (o : Outcome) (set : List Bool) (new : PageStoreState) (done : Done) (left : Option ℕ) →
       AtSlot old.places.table b (λ x. Lost l old.closed x old.places new b done left) → Fits s h (by c (loss_what l p o set)) → (done.outcome ≡ o) × (done.released ≡ set)
-  loss_tells l o set new done left did f =
+  loss_reports l o set new done left did f =
       let x : Slot = there.slot in
       let P : ℕ → Type 0 = λ q. Fits s h (by c (loss_what l q o set)) in
-      let w = loss_told s h c b x l old.closed old.places new done left o set homed there.is m.kept.closed_is (did x there.at) (subst P (sym there.id_is) f) in
+      let w = loss_reported s h c b x l old.closed old.places new done left o set homed there.is m.kept.closed_is (did x there.at) (subst P (sym there.id_is) f) in
       (sym w.0, sym w.1)
 
-  -- an event that tells otherwise would fit with what came of the page
+  -- an event that reports otherwise would fit with what came of the page
   pub loss_differs : (l : Loss) (o : Outcome) (set : List Bool) (new : PageStoreState) (done : Done) (left : Option ℕ) → ((x : Slot) → slot_at old.places.table b ≡ Some x → (q : ℕ) → None ≡ page_refusal x.page (loss_call l q)) →
       AtSlot old.places.table b (λ x. Lost l old.closed x old.places new b done left) → ((done.outcome ≡ o) × (done.released ≡ set) → ⊥) → IsMisfit s h (by c (loss_what l p o set)) (misfit.Outcome done.outcome done.released)
   loss_differs l o set new done left refuses did other =
@@ -137,7 +137,7 @@ module _ (s : Shape) (h : History) (c p b : ℕ) (old : NodeState) (m : Means s 
       let allowed : refusal s h (loss_call l x.id) ≡ None = ap (λ q. refusal s h (loss_call l q)) there.id_is ∙ loss_refusal l ∙ sym (refuses x there.at p) in
       let fits : LossFits s h c x.id l done = loss_fits s h c b x l old.closed old.places new done left homed there.is m.kept.closed_is allowed (did x there.at) in
       let P : ℕ → Type 0 = λ q. Fits s h (by c (loss_what l q done.outcome done.released)) in
-      (λ f. other (loss_tells l o set new done left did f), loss_other s h c p l o set done.outcome done.released (subst P there.id_is fits.fits) other)
+      (λ f. other (loss_reports l o set new done left did f), loss_other s h c p l o set done.outcome done.released (subst P there.id_is fits.fits) other)
 
 -- a page with the next number doesn't live
 new_dead : (s : Shape) (h : History) (p : ℕ) → IsLegal s h → p ≡ allocations h → is_live h p ≡ false
@@ -149,7 +149,7 @@ pub alloc_new : (s : Shape) (h : History) (p : ℕ) (old : NodeState) → Means 
 alloc_new s h p old m e = next_is_new s h old.places.table old.places.queue p m.kept.node (e ∙ m.kept.next_is)
 
 pub alloc_goes : (s : Shape) (h : History) (c p b : ℕ) (queued : Bool) (old new : NodeState) → Means s h old → old.closed ≡ false → p ≡ old.next → b < length old.places.table.slots →
-    slot_at old.places.table b ≡ None → queued ≡ shrinks_underused old.shape → Placed p queued old.places new.places b → new.shape ≡ old.shape → new.flights ≡ old.flights → new.next ≡ old.next + 1 →
+    slot_at old.places.table b ≡ None → queued ≡ shrinks_underused old.shape → IsPlaced p queued old.places new.places b → new.shape ≡ old.shape → new.flights ≡ old.flights → new.next ≡ old.next + 1 →
     new.closed ≡ old.closed → Fits s h (by c (what.Alloc p b)) × Keeps s (h ++ by c (what.Alloc p b) ∷ []) new
 alloc_goes s h c p b queued old new m unclosed number inside empty switch did shape fs next closed =
     let t = old.places.table in

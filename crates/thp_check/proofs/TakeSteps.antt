@@ -14,7 +14,7 @@ use Rattle.thp_history.proofs.Tallying.{tallies_split, pins_is}
 use Rattle.thp_page.specs.declared.standing.Standing.{Standing}
 use Rattle.thp_page.specs.declared.standing.Standing.TheVariants.{Nowhere, Queued, Batch}
 use Rattle.thp_page.specs.Prelude.{slot_at, HoldsPage, Slot}
-use Rattle.thp_live_pages.specs.Prelude.{AtSlot, PageStoreState, Edits, IsElsewhere, Lost, TakesFirst, left_by, IsFlyingAt, IsSlot, block_of, standing_of}
+use Rattle.thp_live_pages.specs.Prelude.{AtSlot, PageStoreState, Edits, IsElsewhere, Lost, TakesFirst, leaves_batch, IsFlyingAt, IsSlot, block_of, standing_of}
 use Rattle.thp_live_pages.proofs.Admitting.{Found, found, at_home, flies_not_there, flies_nowhere}
 use Rattle.thp_live_pages.proofs.Homing.{Homed, legal_homed, block_push}
 use Rattle.thp_live_pages.proofs.Keeping.{blocks_same, blocks_pushed}
@@ -223,24 +223,24 @@ module _ (s : Shape) (h : History) (c p b : ℕ) (old : NodeState) (m : Means s 
       let P : ℕ → Type 0 = λ q. Fits s h (by c (what.Split q set)) × Keeps s (h ++ by c (what.Split q set) ∷ []) new in
       subst P at.id_is (fits, goes_on s h e old new m node (left (what.Split at.slot.id set) new fs (λ d. flight_push h d c (what.Split at.slot.id set)) (λ r. block_push h e r)) size refl refl shape next closed)
 
-  -- where the event fits, it tells the frames that the split gives back
-  pub split_tells : (set : List Bool) (page : PageState) → PageSplit (shrinks_underused old.shape) at.slot.page page → Fits s h (by c (what.Split p set)) → gives_frames at.slot.page page ≡ set
-  split_tells set page how f =
+  -- where the event fits, it reports the frames that the split gives back
+  pub split_reports : (set : List Bool) (page : PageState) → PageSplit (shrinks_underused old.shape) at.slot.page page → Fits s h (by c (what.Split p set)) → gives_frames at.slot.page page ≡ set
+  split_reports set page how f =
       let P : ℕ → Type 0 = λ q. FitsSplit s h (h ++ by c (what.Split q set) ∷ []) c q set in
-      let told : P at.slot.id = subst P (sym at.id_is) f in
+      let reported : P at.slot.id = subst P (sym at.id_is) f in
       let e : Event = by c (what.Split at.slot.id set) in
       let live : is_live h at.slot.id ≡ true = flying_live s h c b at.slot old.places old.places homed m.kept.node at.at at.stands in
       sym
-      (told.set_is
+      (reported.set_is
       ∙ released_alive s h (h ++ e ∷ []) at.slot.id at.slot.page page slot.tallies (tallies_split s h c at.slot.id set at.slot.page page slot.tallies (splits page how)) live (live_stays h e at.slot.id refl refl ∙ live))
 
-  -- an event that tells other frames would fit with these
+  -- an event that reports other frames would fit with these
   pub split_differs : (set : List Bool) (page : PageState) (given : List Bool) → PageSplit (shrinks_underused old.shape) at.slot.page page → is_split_candidate old.shape.underused at.slot.page ≡ true → at.slot.page.pins ≡ 0 →
       given ≡ gives_frames at.slot.page page → given ≢ set → IsMisfit s h (by c (what.Split p set)) (misfit.Released given)
   split_differs set page given how worth none is other =
       let fits : Fits s h (by c (what.Split at.slot.id given)) = (split_fits s h c b at.slot old.places old.places homed m.kept.node at.at at.stands page given (splits page how) (worth_at true worth) none is).1 in
       let P : ℕ → Type 0 = λ q. Fits s h (by c (what.Split q given)) in
-      (λ f. other (is ∙ split_tells set page how f), (subst P at.id_is fits, λ e. other (cc)))
+      (λ f. other (is ∙ split_reports set page how f), (subst P at.id_is fits, λ e. other (cc)))
 
   pub split_pinned : (set : List Bool) → is_split_candidate old.shape.underused at.slot.page ≡ true → at.slot.page.pins ≢ 0 → IsMisfit s h (by c (what.Split p set)) misfit.HasPins
   split_pinned set worth some = (λ f. some (sym pinned_as ∙ f.unpinned), ((flies, worthy worth), λ e. some (sym pinned_as ∙ e)))
@@ -307,7 +307,7 @@ module _ (s : Shape) (h : History) (c p b : ℕ) (old : NodeState) (m : Means s 
   dropped_not stays first = grind (arith, dropped_as, no_both, first_is_this)
 
 -- the caller whose batch a page leaves by a loss is the one in whose batch it stands
-leaver_is : (o : Outcome) (w : Standing) (d : ℕ) → left_by o w ≡ Some d → w ≡ Batch d
+leaver_is : (o : Outcome) (w : Standing) (d : ℕ) → leaves_batch o w ≡ Some d → w ≡ Batch d
 leaver_is x y d e = grind (arith, same_some)
 
 -- the block of a page that leaves a batch by a loss is one of the flight's

@@ -21,8 +21,8 @@ page_of w = unwrap_or (event_page w) 0
 -- ---- the events that would fit instead, one line each
 
 -- nothing; or an event of c, also as a further alternative; or a split, without its frames
-abbrev pub nothing : List ℕ
-nothing = codes "expected: nothing\n"
+abbrev pub expected_nothing : List ℕ
+expected_nothing = codes "expected: nothing\n"
 
 abbrev pub this : ℕ → What → List ℕ
 this c w = codes "expected: " ++ ended (event_line (by c w))
@@ -46,7 +46,7 @@ expected c w (misfit.Released set) = this c (with_frames set w)
 expected c w (misfit.First (Some p)) = this c (event.Back p) ++ or_this c (event.Dropped p)
 expected c w misfit.MustDrop = this c (event.Dropped (page_of w))
 expected c w misfit.MustRequeue = this c (event.Back (page_of w))
-expected c w m = nothing
+expected c w m = expected_nothing
 
 -- ---- why
 

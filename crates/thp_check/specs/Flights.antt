@@ -1,7 +1,7 @@
 -- The view that contracts have of the flights of a replay. No public clause cites this module.
 use Rattle.std.specs.Prelude.{◌≡◌, ℕ, ◌%◌, cond, nat_eq, List, [], length, slice_index_or, Option, Some, None, filter, Contains}
 use Rattle.thp_links.specs.declared.link.Link.{Link}
-use Rattle.thp_links.specs.Prelude.{without, Stands}
+use Rattle.thp_links.specs.Prelude.{without_index, Stands}
 
 -- the caller of each block, and 64 lists of blocks by caller
 pub record FlightsState : Type 0 where
@@ -21,7 +21,7 @@ blocks_in f c = filter (λ b. nat_eq (caller_at f.callers b) c) (list_at f.lists
 -- the flight of caller d after block b, or page b, has left that of this caller, if any
 abbrev pub flight_left : Option ℕ → ℕ → ℕ → List ℕ → List ℕ
 flight_left None b d bs = bs
-flight_left (Some c) b d bs = cond (nat_eq c d) (without b bs) bs
+flight_left (Some c) b d bs = cond (nat_eq c d) (without_index b bs) bs
 
 -- the links hold the lists, each with blocks of its own callers only
 pub record AreLinked (callers : List ℕ) (lists : List (List ℕ)) (ls : List Link) : Type 0 where

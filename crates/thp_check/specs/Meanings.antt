@@ -36,8 +36,8 @@ abbrev pub IsMisfit : Shape → History → Event → Misfit → Type 0
 IsMisfit s h e m = (Fits s h e → ⊥) × Explains s h e m
 
 -- whether the event of c fits each history that the replay may mean, and if not, why; if it does, the replay continues with it
-abbrev pub Follows : NodeState → NodeState → ℕ → What → Result Unit Misfit → Type 0
-Follows old new c w answer =
+abbrev pub ReplayFollows : NodeState → NodeState → ℕ → What → Result Unit Misfit → Type 0
+ReplayFollows old new c w answer =
     (s : Shape) (h : History) → Means s h old → MatchResult answer (λ fits. Fits s h (by c w) × Keeps s (h ++ by c w ∷ []) new) (IsMisfit s h (by c w))
 
 -- the same for a whole event
@@ -45,7 +45,7 @@ abbrev pub Admits : NodeState → NodeState → Event → Result Unit Misfit →
 Admits old new e answer = (s : Shape) (h : History) → Means s h old → MatchResult answer (λ fits. Fits s h e × Means s (h ++ e ∷ []) new) (IsMisfit s h e)
 
 -- the replay means some history
-pub record IsKnown (r : NodeState) : Type 0 where
+pub record HasMeaning (r : NodeState) : Type 0 where
   pub shape : Shape
   pub history : History
   pub means : Means shape history r

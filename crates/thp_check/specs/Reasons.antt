@@ -12,9 +12,9 @@ use Rattle.thp_check.specs.declared.misfit.Misfit.TheVariants as misfit
 
 -- the same unmap or unpin with this outcome and these frames
 abbrev pub with_outcome : Outcome → List Bool → What → What
-with_outcome o set (UnmapWhole told p given) = UnmapWhole o p set
-with_outcome o set (UnmapSub told p first count given) = UnmapSub o p first count set
-with_outcome o set (Unpin told p given) = Unpin o p set
+with_outcome o set (UnmapWhole reported p given) = UnmapWhole o p set
+with_outcome o set (UnmapSub reported p first count given) = UnmapSub o p first count set
+with_outcome o set (Unpin reported p given) = Unpin o p set
 with_outcome o set w = w
 
 -- the same split with these frames

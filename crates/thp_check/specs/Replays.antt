@@ -10,5 +10,5 @@ pub record Replayed : Type 0 where
   pub history : History
 
 -- the same with one more event
-abbrev pub with_event : Replayed → Event → Replayed
-with_event r e = record { shape = r.shape; history = r.history ++ e ∷ [] }
+abbrev pub replayed_with : Replayed → Event → Replayed
+replayed_with r e = record { shape = r.shape; history = r.history ++ e ∷ [] }

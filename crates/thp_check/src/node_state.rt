@@ -27,7 +27,7 @@ pub(crate) struct NodeState {
 }
 
 impl NodeState {
-    ghost use Rattle.thp_check.specs.Meanings.{Means, IsKnown, IsFirstOf, Follows, Admits};
+    ghost use Rattle.thp_check.specs.Meanings.{Means, HasMeaning, IsFirstOf, ReplayFollows, Admits};
 
     // The state before any event.
     pub(crate) fn new(alloc: Global, shape: Shape) -> Result<NodeState, AllocError>
@@ -49,7 +49,7 @@ impl NodeState {
 
     // The state after an event, or why it does not fit.
     pub(crate) fn admit(&mut self, event: &Event) -> Result<(), Misfit>
-        requires known { IsKnown self.old }
+        requires known { HasMeaning self.old }
         requires small { self.old.next + 1 < 2 ^ 64 }
         ensures { Admits self.old self.new event.now result }
     {
@@ -60,9 +60,9 @@ impl NodeState {
 
     // `admit`, without the record of whether the event is a take.
     fn apply(&mut self, caller: u32, what: &What) -> Result<(), Misfit>
-        requires known { IsKnown self.old }
+        requires known { HasMeaning self.old }
         requires small { self.old.next + 1 < 2 ^ 64 }
-        ensures { Follows self.old self.new caller what.now result }
+        ensures { ReplayFollows self.old self.new caller what.now result }
     {
         if let Some((page, call)) = what.page_call() {
             return match call {
@@ -85,9 +85,9 @@ impl NodeState {
     // A new page.
     #[inline(never)]
     fn alloc(&mut self, page: PageId, block: u32) -> Result<(), Misfit>
-        requires known { IsKnown self.old }
+        requires known { HasMeaning self.old }
         requires small { self.old.next + 1 < 2 ^ 64 }
-        ensures { (c : ℕ) → Follows self.old self.new c (What.Alloc page block) result }
+        ensures { (c : ℕ) → ReplayFollows self.old self.new c (What.Alloc page block) result }
     {
         if self.closed {
             return Err(Misfit::Refused(Refusal::Closed));
@@ -106,7 +106,7 @@ impl NodeState {
 
     // A page that gets mappings, a pin, data or zeros.
     fn gain(&mut self, page: PageId, gain: Gain) -> Result<(), Misfit>
-        ensures { (c : ℕ) → Follows self.old self.new c (gain_what gain page) result }
+        ensures { (c : ℕ) → ReplayFollows self.old self.new c (gain_what gain page) result }
     {
         let block = match self.places.find(page) {
             Some(block) => block,
@@ -120,9 +120,9 @@ impl NodeState {
 
     // A page that loses mappings or a pin, with the outcome and the frames in the event.
     fn lose(&mut self, page: PageId, loss: Loss, what: &What) -> Result<(), Misfit>
-        requires known { IsKnown self.old }
+        requires known { HasMeaning self.old }
         requires call { recorded_call what.now ≡ Some (page, PageCall.Loss loss) }
-        ensures { (c : ℕ) → Follows self.old self.new c what.now result }
+        ensures { (c : ℕ) → ReplayFollows self.old self.new c what.now result }
     {
         let block = match self.places.find(page) {
             Some(block) => block,
@@ -143,8 +143,8 @@ impl NodeState {
     // A take of the oldest page.
     #[inline(never)]
     fn take(&mut self, caller: u32, page: PageId) -> Result<(), Misfit>
-        requires { IsKnown self.old }
-        ensures { Follows self.old self.new caller (What.Taken page) result }
+        requires { HasMeaning self.old }
+        ensures { ReplayFollows self.old self.new caller (What.Taken page) result }
     {
         let block = match self.places.queue().front() {
             Some(block) => block,
@@ -171,8 +171,8 @@ impl NodeState {
     // A try that splits a page of the caller's flight, with the frames in the event.
     #[inline(never)]
     fn split(&mut self, caller: u32, page: PageId, released: &SubSet) -> Result<(), Misfit>
-        requires { IsKnown self.old }
-        ensures { Follows self.old self.new caller (What.Split page released.now) result }
+        requires { HasMeaning self.old }
+        ensures { ReplayFollows self.old self.new caller (What.Split page released.now) result }
     {
         let block = match self.places.find_in_batch(page, caller) {
             Some(block) => block,
@@ -195,7 +195,7 @@ impl NodeState {
     // A try that finds a page of the caller's flight pinned.
     #[inline(never)]
     fn find_pinned(&self, caller: u32, page: PageId) -> Result<(), Misfit>
-        ensures { Follows self.now self.now caller (What.Pinned page) result }
+        ensures { ReplayFollows self.now self.now caller (What.Pinned page) result }
     {
         let block = match self.places.find_in_batch(page, caller) {
             Some(block) => block,
@@ -213,8 +213,8 @@ impl NodeState {
     // A try that finds a page of the caller's flight in use: the page leaves the flight and is on no list.
     #[inline(never)]
     fn leave_used(&mut self, caller: u32, page: PageId) -> Result<(), Misfit>
-        requires { IsKnown self.old }
-        ensures { Follows self.old self.new caller (What.Used page) result }
+        requires { HasMeaning self.old }
+        ensures { ReplayFollows self.old self.new caller (What.Used page) result }
     {
         let block = match self.places.find_in_batch(page, caller) {
             Some(block) => block,
@@ -231,8 +231,8 @@ impl NodeState {
     // A put back of the first page of the caller's flight.
     #[inline(never)]
     fn put_back(&mut self, caller: u32, page: PageId) -> Result<(), Misfit>
-        requires { IsKnown self.old }
-        ensures { Follows self.old self.new caller (What.Back page) result }
+        requires { HasMeaning self.old }
+        ensures { ReplayFollows self.old self.new caller (What.Back page) result }
     {
         let block = self.find_first(caller, page)?;
         if self.is_dropped(block) {
@@ -246,8 +246,8 @@ impl NodeState {
     // A drop of the first page of the caller's flight.
     #[inline(never)]
     fn drop_page(&mut self, caller: u32, page: PageId) -> Result<(), Misfit>
-        requires { IsKnown self.old }
-        ensures { Follows self.old self.new caller (What.Dropped page) result }
+        requires { HasMeaning self.old }
+        ensures { ReplayFollows self.old self.new caller (What.Dropped page) result }
     {
         let block = self.find_first(caller, page)?;
         if !self.is_dropped(block) {
@@ -268,7 +268,7 @@ impl NodeState {
 
     // The block of a page that is the first of a caller's flight; otherwise the first page, if any.
     fn find_first(&self, caller: u32, page: PageId) -> Result<u32, Misfit>
-        requires { IsKnown self.now }
+        requires { HasMeaning self.now }
         ensures there { IfOk result (IsFlyingAt self.now.places.table caller page) }
         ensures first { IfOk result (λ b. slice_get (blocks_in self.now.flights caller) 0 ≡ Some b) }
         ensures other { IfErr result (λ m. (o : Option ℕ) × (m ≡ Misfit.First o) × IsFirstOf self.now caller o × (o ≢ Some page)) }
@@ -287,7 +287,7 @@ impl NodeState {
     // The close of the node.
     #[inline(never)]
     fn close(&mut self) -> Result<(), Misfit>
-        ensures { (c : ℕ) → Follows self.old self.new c What.Close result }
+        ensures { (c : ℕ) → ReplayFollows self.old self.new c What.Close result }
     {
         if self.closed {
             return Err(Misfit::Refused(Refusal::Closed));

@@ -2,7 +2,7 @@
 ghost use Rattle.std.specs.Prelude.{◌≡◌, ◌≤◌, ◌<◌, ◌+◌, ◌*◌, ◌^◌, ℕ, [], ◌∷◌, ◌++◌, length, slice_get, IfOk, IfErr, IfSome};
 ghost use Rattle.thp_history.specs.Prelude.{least_free, allocations, is_closed, History, by, Fits, IsLegal, max_order, min_order, queue, in_words, IsContext};
 ghost use Rattle.thp_history.specs.declared.shape.Shape.{Shape};
-ghost use Rattle.thp_check.specs.Prelude.{Explains, IsFreed, Means, free_after, taken_block, with_event};
+ghost use Rattle.thp_check.specs.Prelude.{Explains, IsFreed, Means, free_after, replayed_with, taken_block};
 
 mod reading;
 
@@ -60,7 +60,7 @@ impl Replay {
     /// Adds an event, if it fits the events so far; otherwise returns why it does not, and discards the replay.
     pub fn admit(mut self, event: &Event) -> Result<Replay, Misfit>
         requires room { length self.history + 1 < 2 ^ 64 }
-        ensures admitted { IfOk result (λ r. r ≡ with_event self event.now) }
+        ensures admitted { IfOk result (λ r. r ≡ replayed_with self event.now) }
         ensures fits { IfOk result (λ r. Fits self.shape self.history event.now) }
         ensures legal { IfOk result (λ r. IsLegal r.shape r.history) }
         ensures misfit { IfErr result (λ m. Fits self.shape self.history event.now → ⊥) }

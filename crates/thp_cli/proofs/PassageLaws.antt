@@ -4,12 +4,12 @@ use Rattle.std.specs.Io.KnownBytes.{Keeps, Appends}
 use Rattle.thp_script.specs.declared.fault.ReadFault.{ReadFault}
 use Rattle.thp_script.specs.declared.fault.ReadFault.TheVariants as reading
 use Rattle.thp_script.specs.Prelude.{Fault, ReportsFault, IsFrontOf}
-use Rattle.thp_cli.specs.Prelude.{RunFault, Write, WritesFront, WritesOn, DeviceCall, Ends, WritesAnswer, run_fault}
+use Rattle.thp_cli.specs.Prelude.{RunFault, Write, WritesFront, WritesOn, DeviceCall, PassageEnds, WritesAnswer, run_fault}
 
 pub keeps_same : (known : Option (List ℕ)) → Keeps known known
 keeps_same x = grind arith
 
--- what is at fault with the bytes that a reading tells
+-- what is at fault with the bytes that a reading reports
 abbrev pub ReportsOf : (Fault → Type 0) → ReadFault → Type 0
 ReportsOf HasFault (reading.Text line kind) = HasFault (line, kind)
 ReportsOf HasFault reading.OutOfMemory = Unit {0}
@@ -20,12 +20,12 @@ module _ (most : ℕ) {A : Type 0} (IsAnswer : List ℕ → A → List ℕ → T
     (faults : (input bytes : List ℕ) (fault : Fault) → IsFrontOf most bytes input → HasFault bytes fault → HasFault input fault)
     (known : Option (List ℕ)) (bytes : List ℕ) (read : IfSome known (IsFrontOf most bytes)) where
   fault_of_input : (o : Option (List ℕ)) → IfSome o (IsFrontOf most bytes) → (fault : Fault) → HasFault bytes fault → IfSome o (λ input. HasFault input fault)
-  fault_of_input x read fault told = grind arith
+  fault_of_input x read fault reported = grind arith
 
   -- the text was at fault, or memory was refused
   pub ends_early : (old : Option (List ℕ)) (reader_failed writer_failed : Bool) (fault : ReadFault) (r : Result A (RunFault ℕ)) → ReportsOf (HasFault bytes) fault → reader_failed ≡ false → writer_failed ≡ false → r ≡ Err (run_fault fault)
-      → Ends IsAnswer HasFault known old old reader_failed writer_failed r
-  ends_early old rf wf x r told e f is = grind (arith, fault_of_input, keeps_same)
+      → PassageEnds IsAnswer HasFault known old old reader_failed writer_failed r
+  ends_early old rf wf x r reported e f is = grind (arith, fault_of_input, keeps_same)
 
   written_of_input : (o : Option (List ℕ)) → IfSome o (IsFrontOf most bytes) → (x : A) (text : List ℕ) (P : List ℕ → Type 0) → IsAnswer bytes x text → P text → IfSome o (λ input. (t : List ℕ) × IsAnswer input x t × P t)
   written_of_input y read x text z answer p = grind arith
@@ -36,12 +36,12 @@ module _ (most : ℕ) {A : Type 0} (IsAnswer : List ℕ → A → List ℕ → T
 
   -- the answer was written
   pub ends_written : (old new : Option (List ℕ)) (reader_failed writer_failed : Bool) (x : A) (text : List ℕ) (r : Result A (RunFault ℕ)) → IsAnswer bytes x text → Appends old new text → reader_failed ≡ false → writer_failed ≡ false → r ≡ Ok x
-      → Ends IsAnswer HasFault known old new reader_failed writer_failed r
+      → PassageEnds IsAnswer HasFault known old new reader_failed writer_failed r
   ends_written old new rf wf x text r answer done e f is = rw is (written_of_input known read x text (λ t. Appends old new t) answer done, e, f)
 
   -- the writer failed, and took a front of the answer
   pub ends_cut : (old new : Option (List ℕ)) (reader_failed writer_failed : Bool) (x : A) (text : List ℕ) (r : Result A (RunFault ℕ)) → IsAnswer bytes x text → WritesFront old new text → reader_failed ≡ false → writer_failed ≡ true → r ≡ Err Write
-      → Ends IsAnswer HasFault known old new reader_failed writer_failed r
+      → PassageEnds IsAnswer HasFault known old new reader_failed writer_failed r
   ends_cut old new rf wf x text r answer cut e f is = rw is (front_of_input known read x text (λ t. WritesFront old new t) answer cut, e, f)
 
 -- ---- calls of the writer
@@ -55,5 +55,5 @@ pub of_answer : (o : Option (Unit {0})) (failed : Bool) (old new : List DeviceCa
 of_answer x failed old new w = grind arith
 
 -- a fault of reading, as a fault that the bytes have
-pub tells_of : {A : Type 0} (read : Result A Fault) (fault : ReadFault) → ReportsFault read fault → ReportsOf (λ f. read ≡ Err f) fault
-tells_of read x told = grind arith
+pub reports_of : {A : Type 0} (read : Result A Fault) (fault : ReadFault) → ReportsFault read fault → ReportsOf (λ f. read ≡ Err f) fault
+reports_of read x reported = grind arith

@@ -24,8 +24,8 @@ use Rattle.thp_cli.specs.Watch.{Watch}
 -- ---- lines on standard error, and exit statuses
 
 -- a line with this text
-abbrev pub line_of : List ℕ → List ℕ
-line_of text = text ++ (10 ∷ [])
+abbrev pub text_line : List ℕ → List ℕ
+text_line text = text ++ (10 ∷ [])
 
 -- the prefix of a program's lines on standard error: its name
 abbrev pub name_front : Program → List ℕ
@@ -45,10 +45,10 @@ no_node_line program number = name_front program ++ codes "no node " ++ decimal 
 abbrev pub message_text : Program → ProgramFault → List ℕ
 message_text program (Run fault) = fault_line program fault
 message_text program (Usage text) = string_bytes text
-message_text program Orders = line_of (codes "thpsplit: bad orders")
-message_text program Underused = line_of (codes "thpsplit: bad underused")
+message_text program Orders = text_line (codes "thpsplit: bad orders")
+message_text program Underused = text_line (codes "thpsplit: bad underused")
 message_text program (NoNode number) = no_node_line program number
-message_text program NoText = line_of (codes "error: invalid UTF-8 was detected in one or more arguments")
+message_text program NoText = text_line (codes "error: invalid UTF-8 was detected in one or more arguments")
 
 -- 2 if the script has an error, 3 if memory could not be allocated or a device failed
 abbrev pub status_of : RunFault ℕ → ℕ
@@ -90,8 +90,8 @@ abbrev pub IsUntouched : Device → Type 0
 IsUntouched w = Keeps w.before w.after × (w.failed ≡ false) × (w.calls ≡ w.called)
 
 -- the writer took the text, or a prefix of it if it failed, and was flushed once if no write failed
-abbrev pub Takes : Device → List ℕ → Type 0
-Takes w text = MatchBool w.failed (WritesFront w.before w.after text) (Appends w.before w.after text) × WritesOn w.failed w.called w.calls
+abbrev pub WriterTakes : Device → List ℕ → Type 0
+WriterTakes w text = MatchBool w.failed (WritesFront w.before w.after text) (Appends w.before w.after text) × WritesOn w.failed w.called w.calls
 
 -- a reader: the bytes that it had, if known, whether it failed, and its calls before and after
 pub record Source : Type 0 where
@@ -127,9 +127,9 @@ IsTextOf shown text = IfSome shown (λ known. text ≡ known)
 
 -- the writer took what a value displays, or a prefix of it if it failed, or memory for the text could not be allocated
 abbrev pub IsShown : Option (List ℕ) → Device → Result (Unit {0}) (RunFault ℕ) → Type 0
-IsShown shown output (Ok _) = (text : List ℕ) × IsTextOf shown text × Takes output text × (output.failed ≡ false)
+IsShown shown output (Ok _) = (text : List ℕ) × IsTextOf shown text × WriterTakes output text × (output.failed ≡ false)
 IsShown shown output (Err fault) =
-    ((text : List ℕ) × IsTextOf shown text × Takes output text × (output.failed ≡ true) × (fault ≡ Write))
+    ((text : List ℕ) × IsTextOf shown text × WriterTakes output text × (output.failed ≡ true) × (fault ≡ Write))
     ⊎ (IsUntouched output × (fault ≡ OutOfMemory))
 
 -- How the program ends for a result of this kind: its text is written, it is reported as lack of memory, or it is reported as an
@@ -165,4 +165,4 @@ IsShort input output result = (result ≡ Err (Run OutOfMemory)) × IsUntouched 
 -- the text that standard error took from a program, and the exit status
 abbrev pub WritesMessage : Program → Device → ℕ → Result Ending ProgramFault → Type 0
 WritesMessage program errors status (Ok ending) = IsUntouched errors × (status ≡ end_status ending)
-WritesMessage program errors status (Err fault) = Takes errors (message_text program fault) × (status ≡ exit_status fault)
+WritesMessage program errors status (Err fault) = WriterTakes errors (message_text program fault) × (status ≡ exit_status fault)

@@ -4,9 +4,9 @@ pub use Rattle.thp_cli.specs.CommandLine.{FailsAsWords, HoldsWords, IsLineWithin
 pub use Rattle.thp_cli.specs.Devices.{WritesFront}
 pub use Rattle.thp_cli.specs.OptionKinds.{IsOption, ReportsFlag, ReportsNumber, WritesNumber, bare_app, flag_rule, valued_rule}
 pub use Rattle.thp_cli.specs.Options.{HasValue}
-pub use Rattle.thp_cli.specs.Outcomes.{Device, IsShort, IsUnread, IsUntouched, Source, Takes, WasAnsweredBy, WritesMessage, device_of, end_status, fault_line, given_words, name_front, no_node_line, source_of, status_of}
+pub use Rattle.thp_cli.specs.Outcomes.{Device, IsShort, IsUnread, IsUntouched, Source, WasAnsweredBy, WriterTakes, WritesMessage, device_of, end_status, fault_line, given_words, name_front, no_node_line, source_of, status_of}
 pub use Rattle.thp_cli.specs.OwnCommand.{IsOwnCommand}
-pub use Rattle.thp_cli.specs.Passages.{Ends, WritesAnswer}
+pub use Rattle.thp_cli.specs.Passages.{PassageEnds, WritesAnswer}
 pub use Rattle.thp_cli.specs.RunFaults.{IsReadingFault, fault_of_long_read, fault_text, run_fault}
 pub use Rattle.thp_cli.specs.Watch.{Watch}
 pub use Rattle.thp_cli.specs.declared.calls.DeviceCall.{DeviceCall}

@@ -9,7 +9,7 @@
 //! - `device` (`Devices`), `watched`, `calls` (`Watch`, `Calls`): reads in parts, whole writes, and the calls that contracts
 //!   see.
 //! - `Passages`: all is read, then one answer is written, or nothing.
-//! - `ending`, `fault`, `telling` (`RunFaults`, `Outcomes`): errors, their lines on standard error, exit statuses.
+//! - `ending`, `fault`, `reporting` (`RunFaults`, `Outcomes`): errors, their lines on standard error, exit statuses.
 #![tactic(auto)]
 
 mod answering;
@@ -21,7 +21,7 @@ mod help;
 mod line;
 mod option_kinds;
 mod options;
-mod telling;
+mod reporting;
 mod version;
 mod watched;
 mod words;
@@ -32,7 +32,7 @@ pub use ending::{Ending, Program, ProgramFault, WordsFault};
 pub use fault::RunFault;
 pub use line::{Line, read_line};
 pub use option_kinds::flag;
-pub use telling::{name_front, status_of_ending, tell, tell_run, tell_text};
+pub use reporting::{name_front, report_fault, report_message, report_run_fault, status_of_ending};
 pub use version::VERSION;
 pub use watched::Watched;
 pub use words::{texts_of, words_of};

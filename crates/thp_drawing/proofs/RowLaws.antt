@@ -1,4 +1,4 @@
--- How many pages were allocated, as their frames tell.
+-- How many pages were allocated, as their frames show.
 use Rattle.std.proofs.Common.{◌≡◌, ◌+◌, ◌-◌, ◌*◌, ◌/◌, ◌^◌, ◌≤◌, ◌<◌, ℕ, arith, length, min}
 use Rattle.std.proofs.Math.Pow.{pow_mono}
 use Rattle.std.proofs.lemmas.List.Sums.{count_by-le-length}

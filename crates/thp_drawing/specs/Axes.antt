@@ -21,18 +21,18 @@ abbrev pub base_line : List ℕ
 base_line = codes "<path class=\"zero\" d=\"M0 0h6000\"/>\n<text class=\"soft e\" x=\"-60\" y=\"0\" dy=\"40\">0</text>\n</g>\n"
 
 -- the number of a node's events that are drawn, and the number that there is room for
-abbrev pub events_of : DrawnNode → ℕ
-events_of d = d.prefixes - 1
+abbrev pub drawn_events : DrawnNode → ℕ
+drawn_events d = d.prefixes - 1
 
 abbrev pub room_of : DrawnNode → ℕ
 room_of d = times d.width (length d.columns.items)
 
 -- the step of their numbers, and how many there are, from 0 on
 abbrev pub event_step : DrawnNode → ℕ
-event_step d = round_step (events_of d)
+event_step d = round_step (drawn_events d)
 
 abbrev pub event_marks : DrawnNode → ℕ
-event_marks d = plus (steps_in (event_step d) (events_of d)) 1
+event_marks d = plus (steps_in (event_step d) (drawn_events d)) 1
 
 -- the position of an event: the first column begins before any
 abbrev pub event_at : ℕ → ℕ → ℕ

@@ -26,9 +26,9 @@ abbrev pub is_among : ℕ → ℕ → Bool
 is_among c callers = nat_lt c shown_callers && nat_eq (callers / 2 ^ c % 2) 1
 
 -- a bar covers the columns with this property: the page is in the stage, or the caller has pages in its batch
-abbrev pub covers : Bar → Column → Bool
-covers (PageIn x p) c = nat_eq (stage_number (stage_in p c.stages)) (stage_number (Some x))
-covers (BatchOf caller) c = is_among caller c.callers
+abbrev pub bar_covers : Bar → Column → Bool
+bar_covers (PageIn x p) c = nat_eq (stage_number (stage_in p c.stages)) (stage_number (Some x))
+bar_covers (BatchOf caller) c = is_among caller c.callers
 
 -- between a column and the next, at this position: a line begins where the bar begins, and ends where the bar ends
 abbrev pub line_turn : ℕ → ℕ → Bool → Bool → List ℕ
@@ -47,13 +47,13 @@ turn_count true true = 0
 -- the number of starts and ends of a bar, given whether it covers the column before these
 abbrev pub bar_turns : Bar → Bool → List Column → ℕ
 bar_turns bar before [] = 0
-bar_turns bar before (c ∷ more) = turn_count before (covers bar c) + bar_turns bar (covers bar c) more
+bar_turns bar before (c ∷ more) = turn_count before (bar_covers bar c) + bar_turns bar (bar_covers bar c) more
 
 -- the lines of a bar from column j on, of n in all, at this height, given whether it covers the column before
 abbrev pub bar_lines : Bar → ℕ → ℕ → ℕ → Bool → List Column → List ℕ
 bar_lines bar y n j before [] = line_turn y (scaled 6000 j n) before false
 bar_lines bar y n j before (c ∷ more) =
-    line_turn y (scaled 6000 j n) before (covers bar c) ++ bar_lines bar y n (j + 1) (covers bar c) more
+    line_turn y (scaled 6000 j n) before (bar_covers bar c) ++ bar_lines bar y n (j + 1) (bar_covers bar c) more
 
 -- all of them
 abbrev pub bar_at : Bar → ℕ → List Column → List ℕ

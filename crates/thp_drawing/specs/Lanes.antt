@@ -19,9 +19,9 @@ lanes_below columns zero = 0
 lanes_below columns (suc k) = lanes_below columns k + (if has_lane columns k then 1 else 0)
 
 -- the number of starts and ends of the bars of the first k callers
-abbrev pub turns_below : List Column → ℕ → ℕ
-turns_below columns zero = 0
-turns_below columns (suc k) = turns_below columns k + bar_turns (BatchOf k) false columns
+abbrev pub lane_turns_below : List Column → ℕ → ℕ
+lane_turns_below columns zero = 0
+lane_turns_below columns (suc k) = lane_turns_below columns k + bar_turns (BatchOf k) false columns
 
 -- the number of lanes
 unfoldable pub lane_count : List Column → ℕ
@@ -29,7 +29,7 @@ lane_count columns = lanes_below columns shown_callers
 
 -- the number of starts and ends of all bars
 unfoldable pub all_turns : List Column → ℕ
-all_turns columns = turns_below columns shown_callers
+all_turns columns = lane_turns_below columns shown_callers
 
 -- the height of a lane
 abbrev pub lane_height : ℕ

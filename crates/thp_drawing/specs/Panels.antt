@@ -64,9 +64,9 @@ half_most own other = if nat_eq other 0 then own else times 2 own
 
 -- the content above and below the base line, on scales where these numbers are 1,000 high
 unfoldable pub scaled_halves : Quantity → Quantity → ℕ → ℕ → DrawnNode → List ℕ
-scaled_halves up down above below d =
+scaled_halves up down above lower_end d =
     group_start 0 (scaled 1000 (most_of up d.columns.items) above)
-    ++ quantity_half (codes "-") up above d ++ quantity_half [] down below d ++ base_line
+    ++ quantity_half (codes "-") up above d ++ quantity_half [] down lower_end d ++ base_line
 
 -- the same, each quantity on its own scale
 abbrev pub quantity_halves : Quantity → Quantity → DrawnNode → List ℕ
@@ -115,15 +115,15 @@ panel_at p y high d =
     else panel_start y (unit_of p) ++ panel_title p d ++ group_start 0 260 ++ event_rules high d ++ panel_content p d ++ codes "</g>\n</g>\n"
 
 -- the lower end of a panel that begins at this height
-abbrev pub below : ℕ → ℕ → ℕ
-below y high = if nat_eq high 0 then y else plus y (plus 360 high)
+abbrev pub lower_end : ℕ → ℕ → ℕ
+lower_end y high = if nat_eq high 0 then y else plus y (plus 360 high)
 
 -- panels, one below the other from this height on
 abbrev pub panels_drawn : ℕ → List Panel → DrawnNode → List ℕ
 panels_drawn y [] d = []
-panels_drawn y (p ∷ more) d = panel_at p y (content_height p d) d ++ panels_drawn (below y (content_height p d)) more d
+panels_drawn y (p ∷ more) d = panel_at p y (content_height p d) d ++ panels_drawn (lower_end y (content_height p d)) more d
 
 -- their lower end
 abbrev pub panels_foot : ℕ → List Panel → DrawnNode → ℕ
 panels_foot y [] d = y
-panels_foot y (p ∷ more) d = panels_foot (below y (content_height p d)) more d
+panels_foot y (p ∷ more) d = panels_foot (lower_end y (content_height p d)) more d

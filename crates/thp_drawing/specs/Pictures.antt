@@ -7,7 +7,7 @@ use Rattle.thp_drawing.specs.Panels.{panels_drawn, panels_foot, panels_of}
 use Rattle.thp_drawing.specs.Scales.{plus}
 use Rattle.thp_drawing.specs.Stucks.{stuck_height, stuck_text}
 use Rattle.thp_drawing.specs.Styles.{style}
-use Rattle.thp_drawing.specs.Titles.{illegal_text, node_words}
+use Rattle.thp_drawing.specs.Titles.{illegal_title, node_title_words}
 use Rattle.thp_drawing.specs.declared.node.IllegalEvent.{IllegalEvent}
 use Rattle.thp_drawing.specs.declared.node.DrawnNode.{DrawnNode}
 
@@ -30,7 +30,7 @@ node_height d = plus (axis_top d) 300
 -- node n, from this height on
 unfoldable pub node_drawn : ℕ → ℕ → DrawnNode → List ℕ
 node_drawn y n d =
-    group_start 0 y ++ text_at (codes "ink h") 150 240 (node_words n d) ++ illegal_text d.illegal
+    group_start 0 y ++ text_at (codes "ink h") 150 240 (node_title_words n d) ++ illegal_title d.illegal
     ++ stuck_text (plus (stuck_top d.illegal) 140) d ++ panels_drawn (pages_top d) (panels_of d) d
     ++ event_axis (plus (axis_top d) 110) d ++ group_end
 
@@ -50,8 +50,8 @@ name_words =
     codes "<title id=\"title\">Deferred split queues</title>\n"
     ++ codes "<desc id=\"desc\">Queue, batches, frames and pages of each node over its events; thpdraw --table lists them.</desc>\n"
 
-abbrev pub order_words : List ℕ
-order_words = codes "The events of a node follow each other from left to right; those of two nodes have no common time."
+abbrev pub picture_order_words : List ℕ
+picture_order_words = codes "The events of a node follow each other from left to right; those of two nodes have no common time."
 
 abbrev pub column_words : List ℕ
 column_words = codes "Full colour: a column's least number; pale: its greatest; stacks: its mean; bars of pages: its last stage."
@@ -62,7 +62,7 @@ head high =
     (codes "<svg xmlns=\"http://www.w3.org/2000/svg\" viewBox=\"0 0 7200 " ++ decimal high
     ++ codes "\" role=\"img\" aria-labelledby=\"title desc\">\n" ++ name_words ++ style
     ++ codes "<rect class=\"bg\" x=\"0\" y=\"0\" width=\"7200\" height=\"" ++ decimal high ++ codes "\"/>\n")
-    ++ text_at (codes "ink hh") 150 300 (codes "Deferred split queues") ++ text_at (codes "soft") 150 480 order_words
+    ++ text_at (codes "ink hh") 150 300 (codes "Deferred split queues") ++ text_at (codes "soft") 150 480 picture_order_words
     ++ text_at (codes "soft") 150 640 column_words
 
 -- the picture of nodes

@@ -5,7 +5,7 @@ use Rattle.thp_metrics.specs.declared.numbers.Numbers.{Numbers}
 use Rattle.thp_metrics.specs.declared.column.Span.{Span}
 use Rattle.thp_metrics.specs.declared.stage.Stage.{Stage}
 use Rattle.thp_metrics.specs.declared.stage.Stage.TheVariants.{Allocated, PartlyMapped, Queued, InBatch, Split}
-use Rattle.thp_metrics.specs.Prelude.{column_of, count_in, rank}
+use Rattle.thp_metrics.specs.Prelude.{column_of, rank, stage_count}
 use Rattle.thp_drawing.specs.Scales.{doubled_step, plus, plus_all, round_step, times}
 use Rattle.thp_drawing.specs.declared.node.DrawnNode.{DrawnNode}
 use Rattle.thp_drawing.specs.declared.quantity.Quantity.{Quantity}
@@ -80,7 +80,7 @@ sum_up_to x counts = plus_all (take (rank x + 1) counts)
 -- the greatest number of pages in it, summed over a column's prefixes: 0 if the stage does not occur
 abbrev pub most_in : Stage → List Column → ℕ
 most_in x [] = 0
-most_in x (c ∷ more) = max (count_in c.pages x) (most_in x more)
+most_in x (c ∷ more) = max (stage_count c.pages x) (most_in x more)
 
 -- the number of prefixes in column j, given w per column and this many in all
 abbrev pub prefixes_of : ℕ → ℕ → ℕ → ℕ

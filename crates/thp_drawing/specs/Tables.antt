@@ -6,7 +6,7 @@ use Rattle.thp_metrics.specs.declared.column.Column.{Column}
 use Rattle.thp_metrics.specs.declared.stage.Stage.{Stage}
 use Rattle.thp_metrics.specs.declared.stage.Stage.TheVariants.{Allocated, PartlyMapped, Queued, InBatch, Split}
 use Rattle.thp_metrics.specs.declared.waiting.StuckPage.{StuckPage}
-use Rattle.thp_metrics.specs.Prelude.{count_in, shown_callers}
+use Rattle.thp_metrics.specs.Prelude.{shown_callers, stage_count}
 use Rattle.thp_drawing.specs.Bars.{is_among}
 use Rattle.thp_drawing.specs.Elements.{field}
 use Rattle.thp_drawing.specs.declared.node.DrawnNode.{DrawnNode}
@@ -19,8 +19,8 @@ threshold_field (Some threshold) = field threshold
 -- the number for each stage
 abbrev pub stage_fields : List ℕ → List ℕ
 stage_fields counts =
-    field (count_in counts Allocated) ++ field (count_in counts PartlyMapped) ++ field (count_in counts Queued)
-    ++ field (count_in counts InBatch) ++ field (count_in counts Split)
+    field (stage_count counts Allocated) ++ field (stage_count counts PartlyMapped) ++ field (stage_count counts Queued)
+    ++ field (stage_count counts InBatch) ++ field (stage_count counts Split)
 
 -- the numbers of a column: the least and the greatest of each series
 unfoldable pub column_numbers : Column → List ℕ
@@ -87,8 +87,8 @@ illegal_fields None = codes "\t-\t-\n"
 illegal_fields (Some illegal) = field illegal.line ++ codes "\t" ++ ended (event_line illegal.event)
 
 -- the line of node n
-unfoldable pub node_line : ℕ → DrawnNode → List ℕ
-node_line n d =
+unfoldable pub node_table_line : ℕ → DrawnNode → List ℕ
+node_table_line n d =
     (codes "node" ++ field n ++ field d.shape.blocks ++ field d.shape.order) ++ threshold_field d.shape.underused
     ++ node_numbers d ++ stage_fields d.last.pages ++ illegal_fields d.illegal
 
@@ -96,18 +96,18 @@ node_line n d =
 abbrev pub stuck_line : ℕ → StuckPage → List ℕ
 stuck_line n x = codes "stuck" ++ field n ++ field x.page ++ field x.finds ++ field x.since ++ codes "\n"
 
-abbrev pub stuck_lines : ℕ → List StuckPage → List ℕ
-stuck_lines n [] = []
-stuck_lines n (x ∷ more) = stuck_line n x ++ stuck_lines n more
+abbrev pub stuck_table_lines : ℕ → List StuckPage → List ℕ
+stuck_table_lines n [] = []
+stuck_table_lines n (x ∷ more) = stuck_line n x ++ stuck_table_lines n more
 
 -- the lines of node n: its own, those of its columns, and those of its stuck pages
 unfoldable pub node_lines : ℕ → DrawnNode → List ℕ
-node_lines n d = node_line n d ++ column_lines n d.width d.prefixes 0 d.columns.items ++ stuck_lines n d.stuck.items
+node_lines n d = node_table_line n d ++ column_lines n d.width d.prefixes 0 d.columns.items ++ stuck_table_lines n d.stuck.items
 
 -- the lines of nodes from node n on
-abbrev pub lines_from : ℕ → List DrawnNode → List ℕ
-lines_from n [] = []
-lines_from n (d ∷ more) = node_lines n d ++ lines_from (n + 1) more
+abbrev pub table_lines_from : ℕ → List DrawnNode → List ℕ
+table_lines_from n [] = []
+table_lines_from n (d ∷ more) = node_lines n d ++ table_lines_from (n + 1) more
 
 -- the names of the fields
 unfoldable pub heads : List ℕ
@@ -118,7 +118,7 @@ heads =
 
 -- the table of nodes
 abbrev pub table_text : List DrawnNode → List ℕ
-table_text nodes = heads ++ lines_from 0 nodes
+table_text nodes = heads ++ table_lines_from 0 nodes
 
 -- the table of node n alone, with its number
 abbrev pub node_table : ℕ → DrawnNode → List ℕ

@@ -1,6 +1,6 @@
 //! Bars over a node's columns: the rows of its pages, one for each, and the lanes of callers' batches.
 ghost use Rattle.std.specs.Prelude.{◌≡◌, ◌≤◌, ◌++◌, false, length, OnOk, ◌*◌};
-ghost use Rattle.thp_drawing.specs.Bars.{bar_at, bar_turns, covers, is_among, line_turn, stage_in};
+ghost use Rattle.thp_drawing.specs.Bars.{bar_at, bar_covers, bar_turns, is_among, line_turn, stage_in};
 ghost use Rattle.thp_drawing.specs.Rows.{allocated_pages, has_rows, page_turns, row_class, row_height, row_middle, row_turns, rows_drawn, rows_height, stage_bars, stage_rows};
 ghost use Rattle.thp_drawing.specs.Lanes.{all_lanes, all_turns, has_lane, lane_count, lane_drawn, lanes_height};
 ghost use Rattle.thp_drawing.specs.Laws.{EachPageHasItsRow};
@@ -26,7 +26,7 @@ pub(crate) enum Bar {
 impl Bar {
     // Whether the bar covers a column.
     fn covers(self, column: &Column) -> bool
-        ensures { result ≡ covers self column.now }
+        ensures { result ≡ bar_covers self column.now }
     {
         match self {
             Bar::PageIn(stage, page) => { stage_in(page, &column.stages) == Some(stage) }

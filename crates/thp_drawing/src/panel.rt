@@ -1,6 +1,6 @@
 //! The panels of a node.
 ghost use Rattle.std.specs.Prelude.{◌≡◌, ◌++◌, [], codes, OnOk};
-ghost use Rattle.thp_drawing.specs.Panels.{below, content_height, height_of, panel_at, panel_content, panel_start, panel_title, panels_drawn, panels_foot, panels_of, half_most, quantity_half, quantity_halves, quantity_item, unit_of};
+ghost use Rattle.thp_drawing.specs.Panels.{lower_end, content_height, height_of, panel_at, panel_content, panel_start, panel_title, panels_drawn, panels_foot, panels_of, half_most, quantity_half, quantity_halves, quantity_item, unit_of};
 
 use crate::area::put_quantity_areas;
 use crate::axis::{BASE_LINE, put_event_rules, put_ticks};
@@ -64,7 +64,7 @@ fn height_of(most: u128) -> u128
 
 // The lower end of a panel that begins at this height, and whose content is this high.
 fn below(y: u128, high: u128) -> u128
-    ensures { result ≡ below y high }
+    ensures { result ≡ lower_end y high }
 {
     if high == 0 {
         y

@@ -1,7 +1,7 @@
 //! The numbers of nodes as a table.
 ghost use Rattle.std.specs.Prelude.{◌≡◌, ◌≤◌, ◌++◌, ◌+◌, ◌*◌, ◌-◌, List, [], ◌∷◌, length, min, OnOk, codes};
 ghost use Rattle.thp_drawing.specs.Elements.{field};
-ghost use Rattle.thp_drawing.specs.Tables.{caller_item, caller_words, column_line, column_lines, illegal_fields, node_line, node_lines, node_table, stage_fields, stage_letters, stuck_line, stuck_lines, table_text, threshold_field};
+ghost use Rattle.thp_drawing.specs.Tables.{caller_item, caller_words, column_line, column_lines, illegal_fields, node_lines, node_table, node_table_line, stage_fields, stage_letters, stuck_line, stuck_table_lines, table_text, threshold_field};
 
 use crate::bar::is_among;
 use crate::element::{PutResult, draw, put_decimal};
@@ -61,9 +61,9 @@ fn put_node(text: &mut Vec<u8>, number: usize, node: &DrawnNode) -> PutResult
     Ok(())
 }
 
-#[tactic(auto, using(crate::proofs::Pieces::five), unfolding(crate::specs::Tables::node_line, crate::specs::Tables::node_numbers))]
+#[tactic(auto, using(crate::proofs::Pieces::five), unfolding(crate::specs::Tables::node_table_line, crate::specs::Tables::node_numbers))]
 fn put_node_line(text: &mut Vec<u8>, number: usize, node: &DrawnNode) -> PutResult
-    ensures { OnOk result (text.new.items ≡ text.old.items ++ node_line number node.now) }
+    ensures { OnOk result (text.new.items ≡ text.old.items ++ node_table_line number node.now) }
 {
     let shape = &node.shape;
     draw!(text;

@@ -2,7 +2,7 @@
 ghost use Rattle.std.specs.Prelude.{◌≡◌, ◌++◌, OnOk, codes};
 ghost use Rattle.thp_journal_writer.specs.Prelude.{event_line};
 ghost use Rattle.thp_drawing.specs.Elements.{shortened, text_at};
-ghost use Rattle.thp_drawing.specs.Titles.{illegal_text, node_words, threshold_words};
+ghost use Rattle.thp_drawing.specs.Titles.{illegal_title, node_title_words, threshold_words};
 ghost use Rattle.thp_drawing.specs.Stucks.{more_line, stuck_height, stuck_lines, stuck_text, stuck_words};
 
 use crate::element::{PutResult, draw, pieces, put_words};
@@ -17,7 +17,7 @@ const MAX_LETTERS: usize = 70;
 
 /// Appends the words of a node's title: its size, its threshold for underused pages, and the number of events drawn.
 pub(crate) fn put_node_words(text: &mut Vec<u8>, number: usize, node: &DrawnNode) -> PutResult
-    ensures { OnOk result (text.new.items ≡ text.old.items ++ node_words number node.now) }
+    ensures { OnOk result (text.new.items ≡ text.old.items ++ node_title_words number node.now) }
 {
     let shape = &node.shape;
     draw!(text;
@@ -40,7 +40,7 @@ fn put_threshold_words(text: &mut Vec<u8>, threshold: Option<u32>) -> PutResult
 
 /// Appends the text about a node's first illegal event.
 pub(crate) fn put_illegal_text(text: &mut Vec<u8>, illegal: &Option<IllegalEvent>) -> PutResult
-    ensures { OnOk result (text.new.items ≡ text.old.items ++ illegal_text illegal.now) }
+    ensures { OnOk result (text.new.items ≡ text.old.items ++ illegal_title illegal.now) }
 {
     match illegal {
         None => Ok(()),

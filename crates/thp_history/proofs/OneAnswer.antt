@@ -8,7 +8,7 @@ use Rattle.thp_history.proofs.Below.{some_below-ext}
 use Rattle.thp_history.proofs.Pushes.{count_of_push, some_event_push, is_zero_filled_push}
 use Rattle.thp_history.proofs.WordLemmas.{set_of-ext}
 
--- as many events pass a blind test after two events that it tells alike
+-- as many events pass a blind test after two events that it does not distinguish
 count_one : (test : What → Bool) → Blind test → (h k : History) (e f : Event) → SameButBlocks h k → test e.what ≡ test f.what → count_of test (h ++ e ∷ []) ≡ count_of test (k ++ f ∷ [])
 count_one test b h k e f s t = grind (arith, count_of_push, count_alike)
 

@@ -44,19 +44,19 @@ counted test h e n m i f = grind (arith, count_of_push)
 frames_counted : (h : History) (e : Event) (n m : ℕ) → n ≡ frames_given h → m ≡ n + frames_of e.what → m ≡ frames_given (h ++ e ∷ [])
 frames_counted h e n m i f = grind (arith, frames_given_push, size_given)
 
--- what is unsaid tells how many PMD mappings an event splits, and whether it splits an underused page
-pmds_told : (s : Shape) (h : History) (w : What) (u : SplitContext) → IsContext s h w u → pmds_of w u ≡ splits_pmds h w
-pmds_told s h x u i = grind arith
+-- what is unsaid shows how many PMD mappings an event splits, and whether it splits an underused page
+pmds_reported : (s : Shape) (h : History) (w : What) (u : SplitContext) → IsContext s h w u → pmds_of w u ≡ splits_pmds h w
+pmds_reported s h x u i = grind arith
 
-underused_told : (s : Shape) (h : History) (w : What) (u : SplitContext) → IsContext s h w u → underused_of w u ≡ splits_underused s h w
-underused_told s h x u i = grind arith
+underused_reported : (s : Shape) (h : History) (w : What) (u : SplitContext) → IsContext s h w u → underused_of w u ≡ splits_underused s h w
+underused_reported s h x u i = grind arith
 
 few_one : (w : What) (u : SplitContext) → underused_of w u ≤ 1
 few_one x u = grind arith
 
 -- the numbers with one more event
 pub adds_push : (s : Shape) (h : History) (e : Event) (u : SplitContext) (old new : Tally) → AddsUp s h old → IsContext s h e.what u → Adds old new e.what u → AddsUp s (h ++ e ∷ []) new
-adds_push s h e u old new a said d = grind (arith, pmds_told, underused_told, frames_counted, counted, thp_underused_split_page_push, thp_split_pmd_push, few_one, length_push)
+adds_push s h e u old new a said d = grind (arith, pmds_reported, underused_reported, frames_counted, counted, thp_underused_split_page_push, thp_split_pmd_push, few_one, length_push)
 
 -- an unmap or an unpin adds frames and queued pages alone
 pub adds_loss : (old : Tally) (p : ℕ) (l : Loss) (o : Outcome) (set : List Bool) (u : SplitContext) → Adds old (with_loss o set old) (loss_what l p o set) u

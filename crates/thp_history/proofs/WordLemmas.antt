@@ -27,7 +27,7 @@ set_of_is t test e f =
 pub set_of-ext : (f g : ℕ → Bool) → ((i : ℕ) → i < 512 → f i ≡ g i) → set_of f ≡ set_of g
 set_of-ext f g h = set_of_is (set_of f) g (length-set_of f) (λ i below. get_or-set_of f i below ∙ h i below)
 
--- the bit that the code reads tells whether a number is in the set
+-- the bit that the code reads shows whether a number is in the set
 pub has_word : (ws : List ℕ) (i : ℕ) → i < 512 → nat_eq (bit_and (get_or ws (i / 64) 0 / 2 ^ (i % 64)) 1) 1 ≡ has (set_of (in_words ws)) i
 unfolding in_words
 has_word ws i h = ap (λ n. nat_eq n 1) (shr_and_one (get_or ws (i / 64) 0) (i % 64)) ∙ sym (get_or-set_of (in_words ws) i h)
@@ -222,13 +222,13 @@ xor_words-set_of ws vs =
     ∙ sym (ap (λ b. one_alone b (in_words vs i)) (get_or-set_of (in_words ws) i h))
     ∙ sym (ap (λ b. one_alone (has (set_of (in_words ws)) i) b) (get_or-set_of (in_words vs) i h)))
 
--- what a word tells of its numbers
-pub word_tells : (ws : List ℕ) (t : List Bool) (k i : ℕ) → set_of (in_words ws) ≡ t → k < 8 → i / 64 ≡ k → nat_eq (bit_at (get_or ws k 0) (i % 64)) 1 ≡ has t i
+-- what a word shows of its numbers
+pub word_reports : (ws : List ℕ) (t : List Bool) (k i : ℕ) → set_of (in_words ws) ≡ t → k < 8 → i / 64 ≡ k → nat_eq (bit_at (get_or ws k 0) (i % 64)) 1 ≡ has t i
 unfolding in_words
-word_tells ws t k i e h at =
+word_reports ws t k i e h at =
     ap (λ q. nat_eq (bit_at (get_or ws q 0) (i % 64)) 1) (sym at) ∙ sym (get_or-set_of (in_words ws) i (omega arith)) ∙ ap (λ s. has s i) e
 
--- a word written tells its numbers, and the others are as they were
+-- a word that is written contains its numbers, and the others are as they were
 pub word_written : (ws : List ℕ) (t : List Bool) (k w : ℕ) → set_of (in_words ws) ≡ t → length ws ≡ 8 → k < 8 →
     set_of (in_words (set ws k w)) ≡ set_of (λ i. if nat_eq (i / 64) k then nat_eq (bit_at w (i % 64)) 1 else has t i)
 unfolding in_words
@@ -328,7 +328,7 @@ set_size-words ws a =
 pub same_set-Decides : (s t : List Bool) → Decides (same_set s t) (s ≡ t)
 same_set-Decides s t = slice_eq-Decides booleans_Decides s t (same_set s t) refl
 
--- which a test of their words tells
+-- which a test of their words finds
 pub same_words : (ws vs : List ℕ) (s t : List Bool) → set_of (in_words ws) ≡ s → set_of (in_words vs) ≡ t → AreWords ws → AreWords vs →
     (r : Bool) → Decides r (ws ≡ vs) → r ≡ same_set s t
 same_words ws vs s t e f a b r d =
@@ -348,10 +348,10 @@ same_none ws t e a r d = same_words ws (0 ∷ 0 ∷ 0 ∷ 0 ∷ 0 ∷ 0 ∷ 0 �
 
 -- a set that no test finds a number in is the empty one
 pub empty_has_none : (ws : List ℕ) (t : List Bool) (r : Bool) → set_of (in_words ws) ≡ t → r ≡ same_set t (set_of (λ i. false)) → r ≡ not (some_below 512 (has t))
-empty_has_none ws t r e tells =
+empty_has_none ws t r e reports =
     same_from_decides {P = t ≡ set_of (λ i. false)} r (not (some_below 512 (has t))) (
-      λ y. (same_set-Decides t (set_of (λ i. false))).0 (sym tells ∙ y),
-      λ same. tells ∙ (same_set-Decides t (set_of (λ i. false))).1 same,
+      λ y. (same_set-Decides t (set_of (λ i. false))).0 (sym reports ∙ y),
+      λ same. reports ∙ (same_set-Decides t (set_of (λ i. false))).1 same,
     ) (
       λ y. set_of_is t (λ i. false) (sym (ap length e) ∙ length-set_of (in_words ws)) (some_none 512 (has t) (flipped (some_below 512 (has t)) y)),
       λ same. ap not (some_no 512 (has t) (λ i below. ap (λ s. has s i) same ∙ get_or-set_of (λ j. false) i below)),

@@ -18,14 +18,14 @@ marks is_in w = cond is_in w (18446744073709551615 - w)
 marks_fit : (b : Bool) (w : ℕ) → w < 2 ^ 64 → marks b w < 2 ^ 64
 marks_fit x w f = grind arith
 
--- a mark tells that the number is in the set as was asked for
+-- a mark shows that the number is in the set as was asked for
 marked : (b : Bool) (w r : ℕ) → w < 2 ^ 64 → r < 64 → bit_at (marks b w) r ≡ 1 → nat_eq (bit_at w r) 1 ≡ b
 marked true w r f h e = eq-eqb _ 1 e
 marked false w r f h e = ne_eqb _ 1 (λ one. go (bit_at w r) one (sym (bit_at_not w64 w r f h) ∙ e)) where
   go : (n : ℕ) → n ≡ 1 → 1 - n ≡ 1 → ⊥
   go n a b = omega arith
 
--- no mark tells that it isn't
+-- no mark shows that it isn't
 unmarked : (b : Bool) (w r : ℕ) → w < 2 ^ 64 → r < 64 → bit_at (marks b w) r ≡ 0 → nat_eq (bit_at w r) 1 ≡ not b
 unmarked true w r f h e = ne_eqb _ 1 (λ one. go (bit_at w r) one e) where
   go : (n : ℕ) → n ≡ 1 → n ≡ 0 → ⊥

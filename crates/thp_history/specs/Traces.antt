@@ -4,6 +4,6 @@ use Rattle.thp_history.specs.declared.trace.Chain.{Chain}
 use Rattle.thp_history.specs.declared.trace.Chain.TheVariants.{Start, Then'}
 
 -- the items, oldest first
-abbrev pub items_of : {T : Type 0} → Chain T → List T
-items_of Start = []
-items_of (Then' item shape before) = items_of before ++ item ∷ []
+abbrev pub chain_items : {T : Type 0} → Chain T → List T
+chain_items Start = []
+chain_items (Then' item shape before) = chain_items before ++ item ∷ []

@@ -16,12 +16,12 @@ unfoldable pub in_words : List ℕ → ℕ → Bool
 in_words ws i = nat_eq (bit_at (get_or ws (i / 64) 0) (i % 64)) 1
 
 -- the number with these bits, lowest first
-abbrev pub number_of : List Bool → ℕ
-number_of [] = 0
-number_of (b ∷ bs) = cond b 1 0 + 2 * number_of bs
+abbrev pub word_number : List Bool → ℕ
+word_number [] = 0
+word_number (b ∷ bs) = cond b 1 0 + 2 * word_number bs
 
 unfoldable pub words_of : List Bool → List ℕ
-words_of t = map (λ k. number_of (take 64 (drop (64 * k) t))) (range_with_len 0 8)
+words_of t = map (λ k. word_number (take 64 (drop (64 * k) t))) (range_with_len 0 8)
 
 pub record AreWords (ws : List ℕ) : Type 0 where
   pub eight : length ws ≡ 8
@@ -40,19 +40,19 @@ unfolding digit
 low_of true n = omega arith
 low_of false n = omega arith
 
-number_below : (bs : List Bool) → number_of bs < 2 ^ length bs
+number_below : (bs : List Bool) → word_number bs < 2 ^ length bs
 unfolding digit
 number_below [] = omega arith
-number_below (b ∷ bs) = go b (number_of bs) (2 ^ length bs) (2 ^ suc (length bs)) (number_below bs) (pow-suc 2 (length bs)) where
+number_below (b ∷ bs) = go b (word_number bs) (2 ^ length bs) (2 ^ suc (length bs)) (number_below bs) (pow-suc 2 (length bs)) where
   go : (b : Bool) (m n k : ℕ) → m < n → k ≡ n * 2 → cond b 1 0 + 2 * m < k
   go true m n k h e = omega arith
   go false m n k h e = omega arith
 
-bit_of_number : (bs : List Bool) (i : ℕ) → bit_at (number_of bs) i ≡ digit (get_or bs i false)
+bit_of_number : (bs : List Bool) (i : ℕ) → bit_at (word_number bs) i ≡ digit (get_or bs i false)
 unfolding digit
 bit_of_number [] i = bit_at-zero i
-bit_of_number (b ∷ bs) zero = bit_at_lowest (number_of (b ∷ bs)) ∙ low_of b (number_of bs)
-bit_of_number (b ∷ bs) (suc i) = bit_at-suc (number_of (b ∷ bs)) i ∙ ap (λ n. bit_at n i) (half_of b (number_of bs)) ∙ bit_of_number bs i
+bit_of_number (b ∷ bs) zero = bit_at_lowest (word_number (b ∷ bs)) ∙ low_of b (word_number bs)
+bit_of_number (b ∷ bs) (suc i) = bit_at-suc (word_number (b ∷ bs)) i ∙ ap (λ n. bit_at n i) (half_of b (word_number bs)) ∙ bit_of_number bs i
 
 digit_eq : (n : ℕ) → n < 2 → digit (nat_eq n 1) ≡ n
 unfolding digit
@@ -85,25 +85,25 @@ word_bit ws k i h g =
 sixty_four : (t : List Bool) (k : ℕ) → length t ≡ 512 → k < 8 → length (take 64 (drop (64 * k) t)) ≡ 64
 sixty_four t k e h = length-take-le 64 (drop (64 * k) t) (omega (arith, length-drop (64 * k) t))
 
-word_of : (ws : List ℕ) (k : ℕ) → k < 8 → get_or ws k 0 < 2 ^ 64 → number_of (take 64 (drop (64 * k) (set_of (in_words ws)))) ≡ get_or ws k 0
-word_of ws k h f =
+same_word : (ws : List ℕ) (k : ℕ) → k < 8 → get_or ws k 0 < 2 ^ 64 → word_number (take 64 (drop (64 * k) (set_of (in_words ws)))) ≡ get_or ws k 0
+same_word ws k h f =
     let bs : List Bool = take 64 (drop (64 * k) (set_of (in_words ws))) in
     let short : length bs ≡ 64 = sixty_four (set_of (in_words ws)) k (length-set_of (in_words ws)) h in
-    same_from_bits_below 64 (number_of bs) (get_or ws k 0) (let P : ℕ → Type 0 = λ n. number_of bs < 2 ^ n in subst P short (number_below bs)) f
+    same_from_bits_below 64 (word_number bs) (get_or ws k 0) (let P : ℕ → Type 0 = λ n. word_number bs < 2 ^ n in subst P short (number_below bs)) f
     (λ i below. bit_of_number bs i ∙ word_bit ws k i h below)
 
 eight_of : (t : List Bool) → length (words_of t) ≡ 8
 unfolding words_of
-eight_of t = length-map-range_with_len (λ k. number_of (take 64 (drop (64 * k) t))) 0 8
+eight_of t = length-map-range_with_len (λ k. word_number (take 64 (drop (64 * k) t))) 0 8
 
-at_word : (t : List Bool) (k : ℕ) → k < 8 → get_or (words_of t) k 0 ≡ number_of (take 64 (drop (64 * k) t))
+at_word : (t : List Bool) (k : ℕ) → k < 8 → get_or (words_of t) k 0 ≡ word_number (take 64 (drop (64 * k) t))
 unfolding words_of
-at_word t k h = get_or-map-range_with_len (λ k. number_of (take 64 (drop (64 * k) t))) 0 8 k k 0 h (omega arith)
+at_word t k h = get_or-map-range_with_len (λ k. word_number (take 64 (drop (64 * k) t))) 0 8 k k 0 h (omega arith)
 
 pub words_are : (ws : List ℕ) → AreWords ws → words_of (set_of (in_words ws)) ≡ ws
 words_are ws h =
     same_number_lists (words_of (set_of (in_words ws))) ws (eight_of (set_of (in_words ws)) ∙ sym h.eight)
-    (λ k below. at_word (set_of (in_words ws)) k (omega (arith, eight_of (set_of (in_words ws)))) ∙ word_of ws k (omega (arith, eight_of (set_of (in_words ws)))) (h.fit k 0 (omega (arith, h.eight, eight_of (set_of (in_words ws))))))
+    (λ k below. at_word (set_of (in_words ws)) k (omega (arith, eight_of (set_of (in_words ws)))) ∙ same_word ws k (omega (arith, eight_of (set_of (in_words ws)))) (h.fit k 0 (omega (arith, h.eight, eight_of (set_of (in_words ws))))))
 
 pub words_of-truths : (s : Inside) → AreWords s.words → record { words = words_of (set_of (in_words s.words)) } ≡ s
 words_of-truths s h = ap same (words_are s.words h) where

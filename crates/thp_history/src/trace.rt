@@ -19,11 +19,11 @@ pub struct Trace<T> {
 
 impl<T> Model for Trace<T> {
     ghost use Rattle.std.specs.Prelude.{List};
-    ghost use Rattle.thp_history.specs.Traces.{items_of};
+    ghost use Rattle.thp_history.specs.Traces.{chain_items};
 
     ghost Value = { List T };
 
-    ghost view = { λ t. items_of t.steps.value };
+    ghost view = { λ t. chain_items t.steps.value };
 }
 
 impl<T: Copy> Trace<T> {

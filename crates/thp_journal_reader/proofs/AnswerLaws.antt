@@ -8,7 +8,7 @@ use Rattle.thp_history.specs.Prelude.{with_least_blocks, History, IsLegal, IsFir
 use Rattle.thp_history.proofs.LeastBlocks.{least_is_legal, least_same}
 use Rattle.thp_script.specs.declared.fault.TextKind.TheVariants.{TooLong}
 use Rattle.thp_script.specs.Prelude.{◌>>=◌, Fault, Text, lines_of}
-use Rattle.thp_journal_reader.specs.Prelude.{ReadJournals, ReadNode, Line, Head, Node, Happened, End, Start, AreLegalBefore, CanBeLegal, IsLegalNode, ReportsIllegal, events_of, journals_with, journals_within, lines_from, node_journal, nodes_of}
+use Rattle.thp_journal_reader.specs.Prelude.{ReadJournals, ReadNode, Line, Head, Node, Happened, End, Start, AreLegalBefore, CanBeLegal, IsLegalNode, ReportsIllegal, node_events, journals_with, journals_within, lines_from, node_journal, nodes_of}
 
 -- the first misfit is one of the events
 pub misfit_inside : (shape : Shape) (h : History) (place : ℕ) → IsFirstMisfit shape h place → place < length h
@@ -30,20 +30,20 @@ legal_more nodes place node inside is before legal = grind (arith, cases_lt, sli
 abbrev pub HasLeastBlocks : ReadNode → Type 0
 HasLeastBlocks node = (h : History) × (node.events ≡ with_least_blocks node.shape h)
 
--- each node that lines tell has them
+-- each node that lines report has them
 pub each_least : (number : ℕ) (lines : List Line) → All HasLeastBlocks (nodes_of number lines)
 each_least number [] = All-nil HasLeastBlocks
 each_least number (Head version ∷ lines) = each_least (number + 1) lines
 each_least number (Happened event ∷ lines) = each_least (number + 1) lines
 each_least number (End ∷ lines) = each_least (number + 1) lines
 each_least number (Node n shape ∷ lines) =
-    All-cons HasLeastBlocks (node_journal (number + 1) shape (events_of lines)) (nodes_of (number + 1) lines) (events_of lines, refl) (each_least (number + 1) lines)
+    All-cons HasLeastBlocks (node_journal (number + 1) shape (node_events lines)) (nodes_of (number + 1) lines) (node_events lines, refl) (each_least (number + 1) lines)
 
 all_least : (lines : List Line) → All HasLeastBlocks (journals_with lines).nodes
 unfolding journals_with
 all_least lines = each_least 1 lines
 
--- what is read, where nothing is at fault, is told by lines
+-- what is read, where nothing is at fault, is determined by lines
 abbrev no_journals : Fault → Result ReadJournals Fault
 no_journals fault = Err fault
 
@@ -56,9 +56,9 @@ lines_of_journals most text journals e = lines_read (nat_lt most (length text)) 
 
 least_read : (most : ℕ) (text : Text) (journals : ReadJournals) → journals_within most text ≡ Ok journals → All HasLeastBlocks journals.nodes
 least_read most text journals e =
-    let told = lines_of_journals most text journals e in
+    let reported = lines_of_journals most text journals e in
     let P : ReadJournals → Type 0 = λ js. All HasLeastBlocks js.nodes in
-    subst P told.1 (all_least told.0)
+    subst P reported.1 (all_least reported.0)
 
 -- where some choice of blocks is legal, the least blocks are
 legal_if_any : (node : ReadNode) → HasLeastBlocks node → CanBeLegal node → IsLegalNode node
@@ -77,16 +77,16 @@ found_has P nodes place node here all =
     subst P same (all place node inside)
 
 pub none_wronged : (nodes : List ReadNode) (line : Option ℕ) → All HasLeastBlocks nodes → ReportsIllegal nodes line → All CanBeLegal nodes → line ≡ None
-none_wronged nodes None least told can = refl
-none_wronged nodes (Some line) least told can =
-    let node = told.node in
+none_wronged nodes None least reported can = refl
+none_wronged nodes (Some line) least reported can =
+    let node = reported.node in
     let legal : IsLegalNode node =
-    legal_if_any node (found_has (λ n. HasLeastBlocks n) nodes told.place node told.here least) (found_has (λ n. CanBeLegal n) nodes told.place node told.here can) in
-    absurd (misfit_is_illegal node.shape node.events told.first.place told.first.misfit legal)
+    legal_if_any node (found_has (λ n. HasLeastBlocks n) nodes reported.place node reported.here least) (found_has (λ n. CanBeLegal n) nodes reported.place node reported.here can) in
+    absurd (misfit_is_illegal node.shape node.events reported.first.place reported.first.misfit legal)
 
 -- the answer to a text is no line where some choice of blocks is legal
 pub free_choice : (most : ℕ) (text : Text) (journals : ReadJournals) (line : Option ℕ) → journals_within most text ≡ Ok journals → ReportsIllegal journals.nodes line → (others : ReadJournals) → journals_within most text ≡ Ok others → All CanBeLegal others.nodes → line ≡ None
-free_choice most text journals line read told others read-too can =
+free_choice most text journals line read reported others read-too can =
     let same : others ≡ journals = cc in
     let P : ReadJournals → Type 0 = λ js. All CanBeLegal js.nodes in
-    none_wronged journals.nodes line (least_read most text journals read) told (subst P same can)
+    none_wronged journals.nodes line (least_read most text journals read) reported (subst P same can)

@@ -4,12 +4,12 @@ use Rattle.std.proofs.lemmas.Option.{slice_get_within, slice_get-get_or}
 use Rattle.std.proofs.lemmas.Bool.Decides.{eqb_tells}
 use Rattle.thp_history.proofs.Counting.{count-cons}
 use Rattle.thp_journal_reader.specs.declared.page_blocks.Allocation.{Allocation}
-use Rattle.thp_journal_reader.specs.Chains.{IsChain, IsCovered, IsWalked, place_after}
+use Rattle.thp_journal_reader.specs.Chains.{IsAllocationChain, IsCovered, IsWalked, chain_place}
 use Rattle.thp_live_pages.proofs.Least.{counted_inside}
 use Rattle.thp_journal_reader.proofs.Lookups.{get-before, get-last}
 
 -- one more allocation leaves a chain as it is
-pub chain_more : (allocs : List Allocation) (x : Allocation) (limit : ℕ) (at : Option ℕ) (bs : List ℕ) → IsChain allocs limit at bs → IsChain (allocs ++ x ∷ []) limit at bs
+pub chain_more : (allocs : List Allocation) (x : Allocation) (limit : ℕ) (at : Option ℕ) (bs : List ℕ) → IsAllocationChain allocs limit at bs → IsAllocationChain (allocs ++ x ∷ []) limit at bs
 chain_more allocs x limit at [] c = c
 chain_more allocs x limit at (b ∷ bs) c = (
   record {
@@ -24,7 +24,7 @@ chain_more allocs x limit at (b ∷ bs) c = (
 )
 
 -- a chain below a limit is below a greater one
-pub chain_wider : (allocs : List Allocation) (m n : ℕ) (at : Option ℕ) (bs : List ℕ) → m ≤ n → IsChain allocs m at bs → IsChain allocs n at bs
+pub chain_wider : (allocs : List Allocation) (m n : ℕ) (at : Option ℕ) (bs : List ℕ) → m ≤ n → IsAllocationChain allocs m at bs → IsAllocationChain allocs n at bs
 chain_wider allocs m n at [] l c = c
 chain_wider allocs m n at (b ∷ bs) l c = (
   record {
@@ -43,20 +43,20 @@ same_one : (allocs : List Allocation) (at : Option ℕ) (p q : ℕ) (x y : Alloc
 same_one allocs at p q x y e f g i = let same : p ≡ q = cc in let there : slice_get allocs p ≡ Some y = ap (λ r. slice_get allocs r) same ∙ i in cc
 
 -- a chain is that of one list
-pub chain_one : (allocs : List Allocation) (m n : ℕ) (at : Option ℕ) (bs cs : List ℕ) → IsChain allocs m at bs → IsChain allocs n at cs → bs ≡ cs
+pub chain_one : (allocs : List Allocation) (m n : ℕ) (at : Option ℕ) (bs cs : List ℕ) → IsAllocationChain allocs m at bs → IsAllocationChain allocs n at cs → bs ≡ cs
 chain_one allocs m n at [] [] c d = refl
 chain_one allocs m n at [] (x ∷ cs) c d = let e : at ≡ None = c in let f : at ≡ Some d.0.place = d.0.at_place in absurd (cc)
 chain_one allocs m n at (b ∷ bs) [] c d = let e : at ≡ None = d in let f : at ≡ Some c.0.place = c.0.at_place in absurd (cc)
 chain_one allocs m n at (b ∷ bs) (x ∷ cs) c d =
     let same : c.0.one ≡ d.0.one = same_one allocs at c.0.place d.0.place c.0.one d.0.one c.0.at_place d.0.at_place c.0.there d.0.there in
     let block : b ≡ x = sym c.0.of_block ∙ ap (λ (o : Allocation). o.block) same ∙ d.0.of_block in
-    let P : Allocation → Type 0 = λ o. IsChain allocs d.0.place o.before cs in
+    let P : Allocation → Type 0 = λ o. IsAllocationChain allocs d.0.place o.before cs in
     let rest : bs ≡ cs = chain_one allocs c.0.place d.0.place c.0.one.before bs cs c.1 (subst P (sym same) d.1) in
     ap (λ y. y ∷ bs) block ∙ ap (λ ys. x ∷ ys) rest
 
 -- a new allocation of a page leads to those before
-pub chain_new : (allocs : List Allocation) (one : Allocation) (bs : List ℕ) → IsChain allocs (length allocs) one.before bs →
-    IsChain (allocs ++ one ∷ []) (length (allocs ++ one ∷ [])) (Some (length allocs)) (one.block ∷ bs)
+pub chain_new : (allocs : List Allocation) (one : Allocation) (bs : List ℕ) → IsAllocationChain allocs (length allocs) one.before bs →
+    IsAllocationChain (allocs ++ one ∷ []) (length (allocs ++ one ∷ [])) (Some (length allocs)) (one.block ∷ bs)
 chain_new allocs one bs c = (
   record {
     place = length allocs;
@@ -70,7 +70,7 @@ chain_new allocs one bs c = (
 )
 
 -- a chain in more allocations
-pub chain_kept : (allocs : List Allocation) (x : Allocation) (at : Option ℕ) (bs : List ℕ) → IsChain allocs (length allocs) at bs → IsChain (allocs ++ x ∷ []) (length (allocs ++ x ∷ [])) at bs
+pub chain_kept : (allocs : List Allocation) (x : Allocation) (at : Option ℕ) (bs : List ℕ) → IsAllocationChain allocs (length allocs) at bs → IsAllocationChain (allocs ++ x ∷ []) (length (allocs ++ x ∷ [])) at bs
 chain_kept allocs x at bs c = grind (arith, chain_wider, length-append, chain_more)
 
 -- the walk begins
@@ -80,7 +80,7 @@ walk_first allocs first counts c = grind arith
 -- the place stands among the allocations
 pub walk_inside : (allocs : List Allocation) (first at : Option ℕ) (old now : List ℕ) (place : ℕ) → at ≡ Some place → IsWalked allocs first at old now → place < length allocs
 walk_inside allocs first at old now place here w = go w.rest w.goes_on where
-  go : (rest : List ℕ) → IsChain allocs w.limit at rest → place < length allocs
+  go : (rest : List ℕ) → IsAllocationChain allocs w.limit at rest → place < length allocs
   go [] c = let e : at ≡ None = c in absurd (cc)
   go (b ∷ bs) c =
       let f : at ≡ Some c.0.place = c.0.at_place in
@@ -104,7 +104,7 @@ count_other x b bs f = count-cons (nat_eq x) b bs ∙ ap (λ c. cond c 1 0 + cou
 pub walk_held : (allocs : List Allocation) (first at : Option ℕ) (old now : List ℕ) (place : ℕ) (one : Allocation) → at ≡ Some place → slice_get allocs place ≡ Some one →
     IsWalked allocs first at old now → 0 < get_or now one.block 0
 walk_held allocs first at old now place one here there w = go w.rest w.goes_on w.given where
-  go : (rest : List ℕ) → IsChain allocs w.limit at rest → ((b : ℕ) → get_or now b 0 + count_by (nat_eq b) w.all ≡ get_or old b 0 + count_by (nat_eq b) rest) → 0 < get_or now one.block 0
+  go : (rest : List ℕ) → IsAllocationChain allocs w.limit at rest → ((b : ℕ) → get_or now b 0 + count_by (nat_eq b) w.all ≡ get_or old b 0 + count_by (nat_eq b) rest) → 0 < get_or now one.block 0
   go [] c g = let e : at ≡ None = c in absurd (cc)
   go (b ∷ bs) c g =
       let same : c.0.one ≡ one = same_one allocs at c.0.place place c.0.one one c.0.at_place here c.0.there there in
@@ -114,24 +114,24 @@ walk_held allocs first at old now place one here there w = go w.rest w.goes_on w
 
 -- the walk comes to an end
 pub walk_falls : (allocs : List Allocation) (first at : Option ℕ) (old now : List ℕ) (place : ℕ) (one : Allocation) → at ≡ Some place → slice_get allocs place ≡ Some one →
-    IsWalked allocs first at old now → place_after one.before < place_after (Some place)
+    IsWalked allocs first at old now → chain_place one.before < chain_place (Some place)
 walk_falls allocs first at old now place one here there w = go w.rest w.goes_on where
-  next : (limit : ℕ) (x : Option ℕ) (bs : List ℕ) → IsChain allocs limit x bs → place_after x < limit + 1
-  next limit x [] c = let e : x ≡ None = c in let P : Option ℕ → Type 0 = λ o. place_after o < limit + 1 in subst P (sym e) (omega arith)
+  next : (limit : ℕ) (x : Option ℕ) (bs : List ℕ) → IsAllocationChain allocs limit x bs → chain_place x < limit + 1
+  next limit x [] c = let e : x ≡ None = c in let P : Option ℕ → Type 0 = λ o. chain_place o < limit + 1 in subst P (sym e) (omega arith)
   next limit x (b ∷ bs) c =
       let e : x ≡ Some c.0.place = c.0.at_place in
       let l : c.0.place < limit = c.0.below in
-      let P : Option ℕ → Type 0 = λ o. place_after o < limit + 1 in
+      let P : Option ℕ → Type 0 = λ o. chain_place o < limit + 1 in
       subst P (sym e) (let r : c.0.place + 1 < limit + 1 = omega arith in r)
 
-  go : (rest : List ℕ) → IsChain allocs w.limit at rest → place_after one.before < place + 1
+  go : (rest : List ℕ) → IsAllocationChain allocs w.limit at rest → chain_place one.before < place + 1
   go [] c = let e : at ≡ None = c in absurd (cc)
   go (b ∷ bs) c =
       let f : at ≡ Some c.0.place = c.0.at_place in
       let place_is : c.0.place ≡ place = cc in
       let same : c.0.one ≡ one = same_one allocs at c.0.place place c.0.one one c.0.at_place here c.0.there there in
-      let P : Allocation → Type 0 = λ o. place_after o.before < c.0.place + 1 in
-      let r : place_after one.before < c.0.place + 1 = subst P same (next c.0.place c.0.one.before bs c.1) in
+      let P : Allocation → Type 0 = λ o. chain_place o.before < c.0.place + 1 in
+      let r : chain_place one.before < c.0.place + 1 = subst P same (next c.0.place c.0.one.before bs c.1) in
       omega arith
 
 -- one step of the walk
@@ -163,12 +163,12 @@ walk_on allocs first at old now place one here there w = go w.rest w.goes_on w.g
             omega arith
       ]
 
-  go : (rest : List ℕ) → IsChain allocs w.limit at rest → ((b : ℕ) → get_or now b 0 + count_by (nat_eq b) w.all ≡ get_or old b 0 + count_by (nat_eq b) rest) → IsWalked allocs first one.before old next
+  go : (rest : List ℕ) → IsAllocationChain allocs w.limit at rest → ((b : ℕ) → get_or now b 0 + count_by (nat_eq b) w.all ≡ get_or old b 0 + count_by (nat_eq b) rest) → IsWalked allocs first one.before old next
   go [] c g = let e : at ≡ None = c in absurd (cc)
   go (b ∷ bs) c g =
       let same : c.0.one ≡ one = same_one allocs at c.0.place place c.0.one one c.0.at_place here c.0.there there in
       let block : b ≡ one.block = sym c.0.of_block ∙ ap (λ (o : Allocation). o.block) same in
-      let P : Allocation → Type 0 = λ o. IsChain allocs c.0.place o.before bs in
+      let P : Allocation → Type 0 = λ o. IsAllocationChain allocs c.0.place o.before bs in
       record {
         all = w.all;
         rest = bs;
@@ -182,9 +182,9 @@ walk_on allocs first at old now place one here there w = go w.rest w.goes_on w.g
 
 -- where the walk has ended each block of the chain was given back
 pub walk_ended : (allocs : List Allocation) (first : Option ℕ) (old now : List ℕ) → IsWalked allocs first None old now →
-    (bs : List ℕ) → IsChain allocs (length allocs) first bs → (b : ℕ) → get_or now b 0 + count_by (nat_eq b) bs ≡ get_or old b 0
+    (bs : List ℕ) → IsAllocationChain allocs (length allocs) first bs → (b : ℕ) → get_or now b 0 + count_by (nat_eq b) bs ≡ get_or old b 0
 walk_ended allocs first old now w bs c b = go w.rest w.goes_on w.given where
-  go : (rest : List ℕ) → IsChain allocs w.limit None rest → ((b : ℕ) → get_or now b 0 + count_by (nat_eq b) w.all ≡ get_or old b 0 + count_by (nat_eq b) rest) →
+  go : (rest : List ℕ) → IsAllocationChain allocs w.limit None rest → ((b : ℕ) → get_or now b 0 + count_by (nat_eq b) w.all ≡ get_or old b 0 + count_by (nat_eq b) rest) →
       get_or now b 0 + count_by (nat_eq b) bs ≡ get_or old b 0
   go [] d g =
       ap (λ xs. get_or now b 0 + count_by (nat_eq b) xs) (chain_one allocs (length allocs) (length allocs) first bs w.all c w.chained)

@@ -10,7 +10,7 @@ use Rattle.thp_history.proofs.LegalSteps.{legal_none}
 use Rattle.thp_history.proofs.ListPlaces.{get_push, get-append_left, get_middle, get_below}
 use Rattle.thp_check.specs.declared.misfit.Misfit.{Misfit}
 use Rattle.thp_check.specs.Prelude.{Explains}
-use Rattle.thp_journal_reader.specs.Prelude.{ReadNode, AreLegalBefore, IsFirstIllegalEvent, IsLegalNode, ReportsFirst, first_of, nodes_told, LastIsIllegal, began, on_last, with_event, with_line, IsNodeBefore, Illegal, Line}
+use Rattle.thp_journal_reader.specs.Prelude.{ReadNode, AreLegalBefore, IsFirstIllegalEvent, IsLegalNode, ReportsFirst, first_illegal, nodes_read, LastIsIllegal, began, on_last, with_event, with_line, IsNodeBefore, Illegal, Line}
 use Rattle.thp_journal_reader.proofs.AnswerLaws.{found_has, misfit_inside, misfit_is_illegal}
 use Rattle.thp_journal_reader.proofs.NodeLaws.{on_last-push}
 
@@ -105,8 +105,8 @@ illegal_before nodes illegal number i each =
 
 -- its line stands before the next line
 pub first_before : (nodes : List ReadNode) (illegal : Option Illegal) (number most : ℕ) → ReportsFirst nodes illegal → All (IsNodeBefore number) nodes → number ≤ most + 1 → IfSome illegal (λ i. i.line ≤ most + 1)
-first_before nodes None number most told each le = tt
-first_before nodes (Some illegal) number most told each le = omega (arith, illegal_before nodes illegal number told each)
+first_before nodes None number most reported each le = tt
+first_before nodes (Some illegal) number most reported each le = omega (arith, illegal_before nodes illegal number reported each)
 
 -- ---- the last node has an illegal event
 
@@ -147,10 +147,10 @@ first_stays [] None event last all = all
 first_stays (n ∷ nodes) None event last all = absurd (not_legal n nodes last all)
 
 -- the next event of a node that is legal so far
-module _ (nodes before : List ReadNode) (last : ReadNode) (are : nodes ≡ before ++ last ∷ []) (told : Event) where
+module _ (nodes before : List ReadNode) (last : ReadNode) (are : nodes ≡ before ++ last ∷ []) (reported : Event) where
   -- the nodes after it
-  pub grown : on_last (with_event told) nodes ≡ before ++ with_event told last ∷ []
-  grown = ap (on_last (with_event told)) are ∙ on_last-push (with_event told) before last
+  pub grown : on_last (with_event reported) nodes ≡ before ++ with_event reported last ∷ []
+  grown = ap (on_last (with_event reported)) are ∙ on_last-push (with_event reported) before last
 
   -- the nodes before it are legal where all are
   pub before_legal : ReportsFirst nodes None → (k : ℕ) (node : ReadNode) → slice_get before k ≡ Some node → IsLegalNode node
@@ -159,27 +159,27 @@ module _ (nodes before : List ReadNode) (last : ReadNode) (are : nodes ≡ befor
       all k node (slice_get_within nodes k node there) there
 
   -- what stands behind it: one of the nodes before, or it
-  pub stands : (k : ℕ) (node : ReadNode) → slice_get (on_last (with_event told) nodes) k ≡ Some node → ((k < length before) × (slice_get before k ≡ Some node)) ⊎ ((k ≡ length before) × (node ≡ with_event told last))
-  stands k node here = get_push before (with_event told last) k node (sym (ap (λ (ns : List ReadNode). slice_get ns k) grown) ∙ here)
+  pub stands : (k : ℕ) (node : ReadNode) → slice_get (on_last (with_event reported) nodes) k ≡ Some node → ((k < length before) × (slice_get before k ≡ Some node)) ⊎ ((k ≡ length before) × (node ≡ with_event reported last))
+  stands k node here = get_push before (with_event reported last) k node (sym (ap (λ (ns : List ReadNode). slice_get ns k) grown) ∙ here)
 
   -- it fits
-  pub first_grows : (illegal : Option Illegal) → IsLegalNode (with_event told last) → ReportsFirst nodes illegal → ReportsFirst (on_last (with_event told) nodes) illegal
+  pub first_grows : (illegal : Option Illegal) → IsLegalNode (with_event reported last) → ReportsFirst nodes illegal → ReportsFirst (on_last (with_event reported) nodes) illegal
   first_grows x legal all = grind (arith, stands, before_legal, illegal_grows)
 
   -- it doesn't fit
-  pub first_stops : (illegal : Option Illegal) (event : Event) (line : ℕ) (m : Misfit) → event ≡ event_with (least_free last.shape last.events) told → IsFirstMisfit last.shape (with_event told last).events (length last.events) →
-      Explains last.shape last.events event m → line ≡ last.first_line + length last.events → ReportsFirst nodes illegal → ReportsFirst (on_last (with_event told) nodes) (first_of illegal (record { line = line; event = event; misfit = m }))
+  pub first_stops : (illegal : Option Illegal) (event : Event) (line : ℕ) (m : Misfit) → event ≡ event_with (least_free last.shape last.events) reported → IsFirstMisfit last.shape (with_event reported last).events (length last.events) →
+      Explains last.shape last.events event m → line ≡ last.first_line + length last.events → ReportsFirst nodes illegal → ReportsFirst (on_last (with_event reported) nodes) (first_illegal illegal (record { line = line; event = event; misfit = m }))
   first_stops None event line m placed misfit why at all =
       let P : List ReadNode → Type 0 = λ ns. IsFirstIllegalEvent ns (record { line = line; event = event; misfit = m }) in
       let W : History → Type 0 = λ h. Explains last.shape h event m in
-      let x : Event = event_with (least_free last.shape last.events) told in
+      let x : Event = event_with (least_free last.shape last.events) reported in
       subst P (sym grown) (record {
         line = record {
           place = length before;
-          node = with_event told last;
-          here = get_middle before (with_event told last) [];
+          node = with_event reported last;
+          here = get_middle before (with_event reported last) [];
           legal_before = λ k node lt here.
-              elim (get_push before (with_event told last) k node here) [
+              elim (get_push before (with_event reported last) k node here) [
                 | inl w ↦ before_legal all k node w.1
                 | inr w ↦ absurd (omega (arith, lt, w.0))
               ];
@@ -188,14 +188,14 @@ module _ (nodes before : List ReadNode) (last : ReadNode) (are : nodes ≡ befor
         event = get_middle last.events x [] ∙ ap (λ (e : Event). Some e) (sym placed);
         why = subst W (sym (take_at last.events (x ∷ []) (length last.events) refl)) why;
       })
-  first_stops (Some i) event line m placed misfit why at one = illegal_grows nodes i told one
+  first_stops (Some i) event line m placed misfit why at one = illegal_grows nodes i reported one
 
--- ---- the nodes that lines tell
+-- ---- the nodes that lines report
 
-pub told_push : (lines : List (ℕ × Line)) (number : ℕ) (line : Line) → nodes_told (lines ++ (number, line) ∷ []) ≡ with_line number (nodes_told lines) line
-unfolding nodes_told
-told_push lines number line = fold_push (λ nodes (l : ℕ × Line). with_line l.0 nodes l.1) [] lines (number, line)
+pub reported_push : (lines : List (ℕ × Line)) (number : ℕ) (line : Line) → nodes_read (lines ++ (number, line) ∷ []) ≡ with_line number (nodes_read lines) line
+unfolding nodes_read
+reported_push lines number line = fold_push (λ nodes (l : ℕ × Line). with_line l.0 nodes l.1) [] lines (number, line)
 
-pub told_none : nodes_told [] ≡ []
-unfolding nodes_told
-told_none = refl
+pub reported_none : nodes_read [] ≡ []
+unfolding nodes_read
+reported_none = refl

@@ -7,15 +7,15 @@ use Rattle.thp_history.specs.Prelude.{event_with, least_free, History, Fits, IsF
 use Rattle.thp_history.proofs.LegalSteps.{legal_push}
 use Rattle.thp_history.proofs.ListPlaces.{get_middle}
 use Rattle.thp_check.specs.declared.misfit.Misfit.{Misfit}
-use Rattle.thp_check.specs.Prelude.{Explains, Replayed, with_event as replayed_with}
+use Rattle.thp_check.specs.Prelude.{Explains, Replayed, replayed_with}
 use Rattle.thp_script.specs.Prelude.{max_counted}
-use Rattle.thp_journal_reader.specs.Prelude.{FollowedNodes, Follower, Illegal, ReadNode, Line, IsLegalNode, ReportsFirst, first_of, has_stopped, nodes_told, AreKept, EndsAt, Follows, FollowsBy, FollowsLines, HasEnded, HasNone, HasRoom, HasRoomIn, IsKept, LastIsIllegal, StopsWith, IsInRange, began, on_last, with_event, with_line, IsNodeBefore}
+use Rattle.thp_journal_reader.specs.Prelude.{FollowedNodes, Follower, Illegal, ReadNode, Line, IsLegalNode, ReportsFirst, first_illegal, has_stopped, nodes_read, AreKept, EndsAt, FollowerKnows, FollowsBy, FollowsLines, HasEnded, HasNone, FollowerHasRoom, HasRoomIn, IsStored, LastIsIllegal, StopsWith, IsLineInRange, began, on_last, with_event, with_line, IsNodeBefore}
 use Rattle.thp_journal_reader.proofs.AnswerLaws.{found_has, legal_more, legal_none, misfit_inside, misfit_is_illegal}
-use Rattle.thp_journal_reader.proofs.CheckLaws.{first_grows, first_none, first_stays, first_stops, front_stays, grown, illegal_grows, illegal_push, illegal_stays, last_misfit, misfit_stays, no_events_legal, told_none, told_push}
+use Rattle.thp_journal_reader.proofs.CheckLaws.{first_grows, first_none, first_stays, first_stops, front_stays, grown, illegal_grows, illegal_push, illegal_stays, last_misfit, misfit_stays, no_events_legal, reported_none, reported_push}
 use Rattle.thp_journal_reader.proofs.NodeLaws.{each_step}
 use Rattle.thp_journal_reader.proofs.ZipLaws.{zip_push}
 
--- a legal node tells no illegal event
+-- a legal node reports no illegal event
 legal_alone : (node : ReadNode) → IsLegalNode node → ReportsFirst (node ∷ []) None
 legal_alone node legal = legal_more (node ∷ []) 0 node (omega arith) refl (legal_none (node ∷ [])) legal
 
@@ -27,7 +27,7 @@ module _ {K : Type 0} (keeps : Shape → History → Option Illegal → K → Ty
   -- ---- what is kept of nodes
 
   -- one more event of a node that has an illegal one changes nothing
-  kept_stays : (event : Event) (node : ReadNode) (kept : K) (place : ℕ) → IsFirstMisfit node.shape node.events place → IsKept keeps node kept → IsKept keeps (with_event event node) kept
+  kept_stays : (event : Event) (node : ReadNode) (kept : K) (place : ℕ) → IsFirstMisfit node.shape node.events place → IsStored keeps node kept → IsStored keeps (with_event event node) kept
   kept_stays event node kept place first is = elim (is.legal) [
     | inl whole ↦ absurd (misfit_is_illegal node.shape node.events place first whole.0)
     | inr front ↦ record {
@@ -63,7 +63,7 @@ module _ {K : Type 0} (keeps : Shape → History → Option Illegal → K → Ty
       let T : Replayed → Type 0 = λ r. keeps r.shape r.history None more in
       let P : List ReadNode → Type 0 = λ ns. AreKept keeps ns new in
       let Q : List K → Type 0 = λ ks. AreKept keeps (e.before ++ e.last ∷ []) ks in
-      subst P (sym e.nodes_are) (subst Q (sym are) (zip_push (IsKept keeps) e.before kept e.last more e.kept_are (record {
+      subst P (sym e.nodes_are) (subst Q (sym are) (zip_push (IsStored keeps) e.before kept e.last more e.kept_are (record {
         front = e.last.events;
         illegal = None;
         legal = inl (e.legal, refl);
@@ -83,64 +83,64 @@ module _ {K : Type 0} (keeps : Shape → History → Option Illegal → K → Ty
     kept_are = are;
   }
 
-  module _ (nodes : List ReadNode) (replay : Replayed) (next_line : ℕ) (kept : List K) (e : EndsAt keeps nodes replay next_line kept) (told event : Event) (placed : event ≡ event_with (least_free replay.shape replay.history) told) where
+  module _ (nodes : List ReadNode) (replay : Replayed) (next_line : ℕ) (kept : List K) (e : EndsAt keeps nodes replay next_line kept) (reported event : Event) (placed : event ≡ event_with (least_free replay.shape replay.history) reported) where
     -- the last node's event, in its block
-    there : event ≡ event_with (least_free e.last.shape e.last.events) told
-    there = placed ∙ ap (λ (r : Replayed). event_with (least_free r.shape r.history) told) e.replay_is
+    there : event ≡ event_with (least_free e.last.shape e.last.events) reported
+    there = placed ∙ ap (λ (r : Replayed). event_with (least_free r.shape r.history) reported) e.replay_is
 
     -- the event fits
     module _ (new : Replayed) (is : new ≡ replayed_with replay event) (fits : Fits replay.shape replay.history event) where
-      legal : IsLegalNode (with_event told e.last)
+      legal : IsLegalNode (with_event reported e.last)
       legal =
           let F : Event → Type 0 = λ x. Fits e.last.shape e.last.events x in
           let G : Replayed → Type 0 = λ r. Fits r.shape r.history event in
-          legal_push e.last.shape e.last.events (event_with (least_free e.last.shape e.last.events) told) e.legal (subst F there (subst G e.replay_is fits))
+          legal_push e.last.shape e.last.events (event_with (least_free e.last.shape e.last.events) reported) e.legal (subst F there (subst G e.replay_is fits))
 
-      pub grows : (illegal : Option Illegal) → ReportsFirst nodes illegal → ReportsFirst (on_last (with_event told) nodes) illegal × EndsAt keeps (on_last (with_event told) nodes) new (next_line + 1) kept
+      pub grows : (illegal : Option Illegal) → ReportsFirst nodes illegal → ReportsFirst (on_last (with_event reported) nodes) illegal × EndsAt keeps (on_last (with_event reported) nodes) new (next_line + 1) kept
       grows illegal first = (
-        first_grows nodes e.before e.last e.nodes_are told illegal legal first,
+        first_grows nodes e.before e.last e.nodes_are reported illegal legal first,
         record {
           before = e.before;
-          last = with_event told e.last;
-          nodes_are = grown nodes e.before e.last e.nodes_are told;
+          last = with_event reported e.last;
+          nodes_are = grown nodes e.before e.last e.nodes_are reported;
           replay_is = is ∙ ap₂ replayed_with e.replay_is there;
           legal = legal;
-          next_is = omega (arith, e.next_is, length-append e.last.events (event_with (least_free e.last.shape e.last.events) told ∷ []));
+          next_is = omega (arith, e.next_is, length-append e.last.events (event_with (least_free e.last.shape e.last.events) reported ∷ []));
           kept_are = e.kept_are;
         },
       )
 
     -- the event doesn't fit
     module _ (m : Misfit) (wrong : Fits replay.shape replay.history event → ⊥) (why : Explains replay.shape replay.history event m) where
-      misfit : IsFirstMisfit e.last.shape (with_event told e.last).events (length e.last.events)
+      misfit : IsFirstMisfit e.last.shape (with_event reported e.last).events (length e.last.events)
       misfit =
           let F : Event → Type 0 = λ x. Fits e.last.shape e.last.events x → ⊥ in
           let G : Replayed → Type 0 = λ r. Fits r.shape r.history event → ⊥ in
-          last_misfit e.last.shape e.last.events (event_with (least_free e.last.shape e.last.events) told) e.legal (subst F there (subst G e.replay_is wrong))
+          last_misfit e.last.shape e.last.events (event_with (least_free e.last.shape e.last.events) reported) e.legal (subst F there (subst G e.replay_is wrong))
 
       explained : Explains e.last.shape e.last.events event m
       explained = let W : Replayed → Type 0 = λ r. Explains r.shape r.history event m in subst W e.replay_is why
 
       -- the first illegal event of these nodes, with the last of them behind others or alone
-      found : (ns before : List ReadNode) → ns ≡ before ++ e.last ∷ [] → (illegal : Option Illegal) → ReportsFirst ns illegal → ReportsFirst (on_last (with_event told) ns) (first_of illegal (record { line = next_line; event = event; misfit = m }))
-      found ns before are illegal first = first_stops ns before e.last are told illegal event next_line m there misfit explained e.next_is first
+      found : (ns before : List ReadNode) → ns ≡ before ++ e.last ∷ [] → (illegal : Option Illegal) → ReportsFirst ns illegal → ReportsFirst (on_last (with_event reported) ns) (first_illegal illegal (record { line = next_line; event = event; misfit = m }))
+      found ns before are illegal first = first_stops ns before e.last are reported illegal event next_line m there misfit explained e.next_is first
 
       pub stops : {R : Type 0} (leaves : Replayed → R → Type 0) (rest : R) (illegal new : Option Illegal) (new_kept : List K) → ReportsFirst nodes illegal → leaves replay rest → StopsWith keeps leaves rest (record { line = next_line; event = event; misfit = m }) illegal kept new new_kept →
-          ReportsFirst (on_last (with_event told) nodes) new × AreKept keeps (on_last (with_event told) nodes) new_kept × LastIsIllegal (on_last (with_event told) nodes)
+          ReportsFirst (on_last (with_event reported) nodes) new × AreKept keeps (on_last (with_event reported) nodes) new_kept × LastIsIllegal (on_last (with_event reported) nodes)
       stops leaves rest illegal new new_kept first left s =
           let here : Illegal = record { line = next_line; event = event; misfit = m } in
-          let last : ReadNode = with_event told e.last in
-          let are = grown nodes e.before e.last e.nodes_are told in
-          let F : Option Illegal → Type 0 = λ i. ReportsFirst (on_last (with_event told) nodes) i in
+          let last : ReadNode = with_event reported e.last in
+          let are = grown nodes e.before e.last e.nodes_are reported in
+          let F : Option Illegal → Type 0 = λ i. ReportsFirst (on_last (with_event reported) nodes) i in
           let P : List ReadNode → Type 0 = λ ns. AreKept keeps ns new_kept in
           let Q : List K → Type 0 = λ ks. AreKept keeps (e.before ++ last ∷ []) ks in
           let L : List ReadNode → Type 0 = λ ns. LastIsIllegal ns in
           let T : Replayed → Type 0 = λ r. keeps r.shape r.history (Some here) s.more in (
             subst F (sym s.illegal_is) (found nodes e.before e.nodes_are illegal first),
-            subst P (sym are) (subst Q (sym s.kept_are) (zip_push (IsKept keeps) e.before kept last s.more e.kept_are (record {
+            subst P (sym are) (subst Q (sym s.kept_are) (zip_push (IsStored keeps) e.before kept last s.more e.kept_are (record {
               front = e.last.events;
               illegal = Some here;
-              legal = inr (record { place = length e.last.events; misfit = misfit; front_is = sym (take_at e.last.events (event_with (least_free e.last.shape e.last.events) told ∷ []) (length e.last.events) refl) });
+              legal = inr (record { place = length e.last.events; misfit = misfit; front_is = sym (take_at e.last.events (event_with (least_free e.last.shape e.last.events) reported ∷ []) (length e.last.events) refl) });
               first = found (e.last ∷ []) [] refl None (legal_alone e.last e.legal);
               kept_is = subst T e.replay_is (s.more_is replay left);
             }))),
@@ -171,7 +171,7 @@ module _ {K : Type 0} (keeps : Shape → History → Option Illegal → K → Ty
     none_is nodes x next_line illegal kept known none = grind arith
 
     -- and the other way round
-    pub follows_none : (nodes : List ReadNode) (new : Follower F K) → new.at_hand ≡ None → ReportsFirst nodes new.illegal → HasNone keeps follows_all nodes new.illegal new.kept.items → Follows replayed keeps follows_all nodes new
+    pub follows_none : (nodes : List ReadNode) (new : Follower F K) → new.at_hand ≡ None → ReportsFirst nodes new.illegal → HasNone keeps follows_all nodes new.illegal new.kept.items → FollowerKnows replayed keeps follows_all nodes new
     follows_none nodes new none first known = grind arith
 
     -- there is room for one more event of a node whose next line has a number that is counted
@@ -185,19 +185,19 @@ module _ {K : Type 0} (keeps : Shape → History → Option Illegal → K → Ty
         let events : length (replayed node).history ≡ length e.last.events = ap (λ (r : Replayed). length r.history) e.replay_is in
         (omega (arith, e.next_is, events), omega (arith, e.next_is, lines))
 
-    pub room : (number : ℕ) (nodes : FollowedNodes F K) → FollowsLines replayed keeps follows_all number nodes → number ≤ max_counted → HasRoom replayed nodes.follower
+    pub room : (number : ℕ) (nodes : FollowedNodes F K) → FollowsLines replayed keeps follows_all number nodes → number ≤ max_counted → FollowerHasRoom replayed nodes.follower
     room number nodes along below = grind (arith, room_by)
 
-    -- ---- the nodes that lines tell
+    -- ---- the nodes that lines report
 
     -- before any line
     pub goes_first : (nodes : FollowedNodes F K) → nodes.lines ≡ [] → nodes.follower.at_hand ≡ None → nodes.follower.illegal ≡ None → nodes.follower.kept.items ≡ [] → FollowsLines replayed keeps follows_all 1 nodes
-    goes_first nodes none no-node legal nothing = grind (arith, told_none, All-nil, follows_none, first_none)
+    goes_first nodes none no-node legal nothing = grind (arith, reported_none, All-nil, follows_none, first_none)
 
     -- behind one more line
-    pub goes_on : (number : ℕ) (old new : FollowedNodes F K) (line : Line) → FollowsLines replayed keeps follows_all number old → IsInRange line → new.lines ≡ old.lines ++ (number, line) ∷ [] →
-        Follows replayed keeps follows_all (with_line number (nodes_told old.lines) line) new.follower → FollowsLines replayed keeps follows_all (number + 1) new
+    pub goes_on : (number : ℕ) (old new : FollowedNodes F K) (line : Line) → FollowsLines replayed keeps follows_all number old → IsLineInRange line → new.lines ≡ old.lines ++ (number, line) ∷ [] →
+        FollowerKnows replayed keeps follows_all (with_line number (nodes_read old.lines) line) new.follower → FollowsLines replayed keeps follows_all (number + 1) new
     goes_on number old new line along in-range lines follows =
-        let told : nodes_told new.lines ≡ with_line number (nodes_told old.lines) line = ap nodes_told lines ∙ told_push old.lines number line in
-        let P : List ReadNode → Type 0 = λ ns. Follows replayed keeps follows_all ns new.follower in
-        record { each = each_step number (nodes_told old.lines) (nodes_told new.lines) line told in-range along.each; follows = subst P (sym told) follows }
+        let reported : nodes_read new.lines ≡ with_line number (nodes_read old.lines) line = ap nodes_read lines ∙ reported_push old.lines number line in
+        let P : List ReadNode → Type 0 = λ ns. FollowerKnows replayed keeps follows_all ns new.follower in
+        record { each = each_step number (nodes_read old.lines) (nodes_read new.lines) line reported in-range along.each; follows = subst P (sym reported) follows }

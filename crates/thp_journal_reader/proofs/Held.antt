@@ -61,7 +61,7 @@ frees_none q w e = frees_is q w ∙ ap (is_it q) e
 pub frees_one : (q p : ℕ) (w : What) → freed_page w ≡ Some p → frees q w ≡ nat_eq q p
 frees_one q p w e = frees_is q w ∙ ap (is_it q) e
 
--- where the answer is the page of which the event tells that it is freed, that is the page that it frees
+-- where the answer is the page of which the event reports that it is freed, that is the page that it frees
 pub event_page : (w : What) (o : Option ℕ) → IfSome o (λ p. frees p w ≡ true) → ((p : ℕ) → frees p w ≡ true → o ≡ Some p) → o ≡ freed_page w
 event_page w o there other = go o (freed_page w) there refl (λ p e. other p (frees_one p p w e ∙ eq-eqb p p refl)) where
   go : (o f : Option ℕ) → IfSome o (λ p. frees p w ≡ true) → freed_page w ≡ f → ((p : ℕ) → freed_page w ≡ Some p → o ≡ Some p) → o ≡ f

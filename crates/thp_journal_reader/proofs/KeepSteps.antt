@@ -10,9 +10,9 @@ use Rattle.thp_live_pages.specs.Prelude.{least_of}
 use Rattle.thp_journal_reader.specs.declared.page_blocks.Allocation.{Allocation}
 use Rattle.thp_journal_reader.specs.declared.page_blocks.PageRecord.{PageRecord}
 use Rattle.thp_journal_reader.specs.declared.page_blocks.PageRecord.TheVariants.{Freed, Holds}
-use Rattle.thp_journal_reader.specs.Chains.{IsChain, IsCovered}
+use Rattle.thp_journal_reader.specs.Chains.{IsAllocationChain, IsCovered}
 use Rattle.thp_journal_reader.specs.Freeing.{freed_page}
-use Rattle.thp_journal_reader.specs.HeldBlocks.{is_unfreed, times_held, blocks_of, IsKnown, Keeps}
+use Rattle.thp_journal_reader.specs.HeldBlocks.{is_unfreed, times_held, blocks_of, IsKnown, KeepsBlocks}
 use Rattle.thp_history.proofs.Bools.{and-false, and-true}
 use Rattle.thp_journal_reader.proofs.Chaining.{chain_new, chain_kept}
 use Rattle.thp_live_pages.proofs.FreeWords.{zeros-get, zeros-length}
@@ -33,24 +33,24 @@ known_freed h k allocs p x e u = subst (λ (y : PageRecord). IsKnown k allocs p 
 
 module _ (s : Shape) where
   -- nothing happened yet
-  pub keeps_first : (known : ℕ → PageRecord) → 1 ≤ s.blocks → ((p : ℕ) → known p ≡ Holds None) → Keeps s [] (replicate s.blocks 0) known []
+  pub keeps_first : (known : ℕ → PageRecord) → 1 ≤ s.blocks → ((p : ℕ) → known p ≡ Holds None) → KeepsBlocks s [] (replicate s.blocks 0) known []
   unfolding blocks_of count_of some_event
   keeps_first known some k = grind (arith, zeros-length, zeros-get, get_or)
 
   -- the least free block is the least that is held by none
-  pub least_is : (h : History) (counts : List ℕ) (known : ℕ → PageRecord) (allocs : List Allocation) → Keeps s h counts known allocs → least_of counts ≡ least_free s h
+  pub least_is : (h : History) (counts : List ℕ) (known : ℕ → PageRecord) (allocs : List Allocation) → KeepsBlocks s h counts known allocs → least_of counts ≡ least_free s h
   unfolding least_of least_free
   least_is h counts known allocs k =
       first_alike (λ b. nat_eq (get_or counts b 0) 0) (λ b. not (block_in_use h b)) 0 (length counts) (λ b. ap (λ n. nat_eq n 0) (k.held b) ∙ sym (free_is h b))
       ∙ ap (λ n. first_that (λ b. not (block_in_use h b)) (range_with_len 0 n)) k.blocks
 
   -- what is known may be written otherwise
-  pub keeps_known : (h : History) (counts : List ℕ) (known others : ℕ → PageRecord) (allocs : List Allocation) → ((p : ℕ) → others p ≡ known p) → Keeps s h counts known allocs → Keeps s h counts others allocs
+  pub keeps_known : (h : History) (counts : List ℕ) (known others : ℕ → PageRecord) (allocs : List Allocation) → ((p : ℕ) → others p ≡ known p) → KeepsBlocks s h counts known allocs → KeepsBlocks s h counts others allocs
   keeps_known h counts known others allocs same k = grind arith
 
   -- an event that neither allocates nor frees
-  pub keeps_quiet : (h : History) (counts : List ℕ) (known : ℕ → PageRecord) (allocs : List Allocation) (e : Event) → Keeps s h counts known allocs →
-      freed_page e.what ≡ None → is_alloc e.what ≡ false → Keeps s (h ++ e ∷ []) counts known allocs
+  pub keeps_quiet : (h : History) (counts : List ℕ) (known : ℕ → PageRecord) (allocs : List Allocation) (e : Event) → KeepsBlocks s h counts known allocs →
+      freed_page e.what ≡ None → is_alloc e.what ≡ false → KeepsBlocks s (h ++ e ∷ []) counts known allocs
   keeps_quiet h counts known allocs e k f n = record {
     blocks = k.blocks;
     some = k.some;
@@ -66,8 +66,8 @@ module _ (s : Shape) where
   freed_then h allocs p x e i = subst (λ (y : PageRecord). IsKnown h allocs p y) e i
 
   -- an allocation of a page that was freed
-  pub keeps_alloc_freed : (h : History) (counts : List ℕ) (known : ℕ → PageRecord) (allocs : List Allocation) (c p x : ℕ) → Keeps s h counts known allocs →
-      known p ≡ Freed → Keeps s (h ++ by c (Alloc p x) ∷ []) counts known allocs
+  pub keeps_alloc_freed : (h : History) (counts : List ℕ) (known : ℕ → PageRecord) (allocs : List Allocation) (c p x : ℕ) → KeepsBlocks s h counts known allocs →
+      known p ≡ Freed → KeepsBlocks s (h ++ by c (Alloc p x) ∷ []) counts known allocs
   keeps_alloc_freed h counts known allocs c p x k e = record {
     blocks = k.blocks;
     some = k.some;
@@ -88,9 +88,9 @@ module _ (s : Shape) where
     gone = freed_then h allocs p (known p) e (k.pages p)
 
   -- an allocation of a page that wasn't freed
-  pub keeps_alloc : (h : History) (counts : List ℕ) (known others : ℕ → PageRecord) (allocs : List Allocation) (c p x : ℕ) (before : Option ℕ) → Keeps s h counts known allocs →
+  pub keeps_alloc : (h : History) (counts : List ℕ) (known others : ℕ → PageRecord) (allocs : List Allocation) (c p x : ℕ) (before : Option ℕ) → KeepsBlocks s h counts known allocs →
       known p ≡ Holds before → x < length counts → ((q : ℕ) → others q ≡ cond (nat_eq q p) (Holds (Some (length allocs))) (known q)) →
-      Keeps s (h ++ by c (Alloc p x) ∷ []) (set counts x (get_or counts x 0 + 1)) others (allocs ++ record { block = x; before = before } ∷ [])
+      KeepsBlocks s (h ++ by c (Alloc p x) ∷ []) (set counts x (get_or counts x 0 + 1)) others (allocs ++ record { block = x; before = before } ∷ [])
   keeps_alloc h counts known others allocs c p x before k e inside f = record {
     blocks = length-set counts x (get_or counts x 0 + 1) ∙ k.blocks;
     some = k.some;
@@ -101,7 +101,7 @@ module _ (s : Shape) where
           | inl y ↦
               subst (λ (z : PageRecord). IsKnown after (allocs ++ one ∷ []) q z) (sym (f q ∙ ap (λ v. cond v (Holds (Some (length allocs))) (known q)) y.0)) (
                 unfreed_same h (by c (Alloc p x)) q refl ∙ ap (is_unfreed h) y.1 ∙ here.0,
-                subst (λ (bs : List ℕ). IsChain (allocs ++ one ∷ []) (length (allocs ++ one ∷ [])) (Some (length allocs)) bs)
+                subst (λ (bs : List ℕ). IsAllocationChain (allocs ++ one ∷ []) (length (allocs ++ one ∷ [])) (Some (length allocs)) bs)
                     (sym (blocks_push h (by c (Alloc p x)) q ∙ ap (λ v. cond v (x ∷ blocks_of h q) (blocks_of h q)) y.0 ∙ ap (λ r. x ∷ blocks_of h r) y.1))
                     (chain_new allocs one (blocks_of h p) here.1),
               )
@@ -118,7 +118,7 @@ module _ (s : Shape) where
     after : History
     after = h ++ by c (Alloc p x) ∷ []
 
-    here : (is_unfreed h p ≡ true) × IsChain allocs (length allocs) before (blocks_of h p)
+    here : (is_unfreed h p ≡ true) × IsAllocationChain allocs (length allocs) before (blocks_of h p)
     here = subst (λ (y : PageRecord). IsKnown h allocs p y) e (k.pages p)
 
     plain : (n : ℕ) → n ≡ n + 0
@@ -139,21 +139,21 @@ module _ (s : Shape) where
         ]
 
   -- the blocks of a page that is freed are held
-  pub keeps_covered : (h : History) (counts : List ℕ) (known : ℕ → PageRecord) (allocs : List Allocation) (e : Event) (p : ℕ) (last : Option ℕ) → Keeps s h counts known allocs →
+  pub keeps_covered : (h : History) (counts : List ℕ) (known : ℕ → PageRecord) (allocs : List Allocation) (e : Event) (p : ℕ) (last : Option ℕ) → KeepsBlocks s h counts known allocs →
       known p ≡ Holds last → freed_page e.what ≡ Some p → is_alloc e.what ≡ false → IsCovered allocs last counts
   keeps_covered h counts known allocs e p last k x f n = record {
     blocks = blocks_of h p;
     chained = here.1;
     covered = λ b. let sum : times_held (h ++ e ∷ []) b + count_by (nat_eq b) (blocks_of h p) ≡ times_held h b = held_without h e p b f n here.0 in let now : get_or counts b 0 ≡ times_held h b = k.held b in omega arith;
   } where
-    here : (is_unfreed h p ≡ true) × IsChain allocs (length allocs) last (blocks_of h p)
+    here : (is_unfreed h p ≡ true) × IsAllocationChain allocs (length allocs) last (blocks_of h p)
     here = subst (λ (y : PageRecord). IsKnown h allocs p y) x (k.pages p)
 
   -- a page is freed, and its blocks are given back
-  pub keeps_free : (h : History) (counts others : List ℕ) (known known_then : ℕ → PageRecord) (allocs : List Allocation) (e : Event) (p : ℕ) (last : Option ℕ) → Keeps s h counts known allocs →
+  pub keeps_free : (h : History) (counts others : List ℕ) (known known_then : ℕ → PageRecord) (allocs : List Allocation) (e : Event) (p : ℕ) (last : Option ℕ) → KeepsBlocks s h counts known allocs →
       known p ≡ Holds last → freed_page e.what ≡ Some p → is_alloc e.what ≡ false → ((q : ℕ) → known_then q ≡ cond (nat_eq q p) Freed (known q)) → length others ≡ length counts →
-      ((bs : List ℕ) → IsChain allocs (length allocs) last bs → (b : ℕ) → get_or others b 0 + count_by (nat_eq b) bs ≡ get_or counts b 0) →
-      Keeps s (h ++ e ∷ []) others known_then allocs
+      ((bs : List ℕ) → IsAllocationChain allocs (length allocs) last bs → (b : ℕ) → get_or others b 0 + count_by (nat_eq b) bs ≡ get_or counts b 0) →
+      KeepsBlocks s (h ++ e ∷ []) others known_then allocs
   keeps_free h counts others known known_then allocs e p last k x f n now size given = record {
     blocks = size ∙ k.blocks;
     some = k.some;
@@ -165,7 +165,7 @@ module _ (s : Shape) where
     few = λ b. let less : get_or others b 0 + count_by (nat_eq b) (blocks_of h p) ≡ get_or counts b 0 = given (blocks_of h p) here.1 b in let was : get_or counts b 0 ≤ length allocs = k.few b in omega arith;
     pages = λ q. subst (λ (z : PageRecord). IsKnown (h ++ e ∷ []) allocs q z) (sym (now q)) (one q);
   } where
-    here : (is_unfreed h p ≡ true) × IsChain allocs (length allocs) last (blocks_of h p)
+    here : (is_unfreed h p ≡ true) × IsAllocationChain allocs (length allocs) last (blocks_of h p)
     here = subst (λ (y : PageRecord). IsKnown h allocs p y) x (k.pages p)
 
     one : (q : ℕ) → IsKnown (h ++ e ∷ []) allocs q (cond (nat_eq q p) Freed (known q))
@@ -182,8 +182,8 @@ module _ (s : Shape) where
         ]
 
   -- a page is freed that was freed before
-  pub keeps_free_again : (h : History) (counts : List ℕ) (known : ℕ → PageRecord) (allocs : List Allocation) (e : Event) (p : ℕ) → Keeps s h counts known allocs →
-      known p ≡ Freed → freed_page e.what ≡ Some p → is_alloc e.what ≡ false → Keeps s (h ++ e ∷ []) counts known allocs
+  pub keeps_free_again : (h : History) (counts : List ℕ) (known : ℕ → PageRecord) (allocs : List Allocation) (e : Event) (p : ℕ) → KeepsBlocks s h counts known allocs →
+      known p ≡ Freed → freed_page e.what ≡ Some p → is_alloc e.what ≡ false → KeepsBlocks s (h ++ e ∷ []) counts known allocs
   keeps_free_again h counts known allocs e p k x f n = record {
     blocks = k.blocks;
     some = k.some;

@@ -8,7 +8,7 @@ use Rattle.thp_history.specs.Prelude.{event_with, least_free, with_least_blocks,
 use Rattle.thp_script.specs.declared.fault.ReadFault.{ReadFault}
 use Rattle.thp_script.specs.declared.fault.ReadFault.TheVariants.{OutOfMemory}
 use Rattle.thp_script.specs.Prelude.{Fault, ReportsFault}
-use Rattle.thp_journal_reader.specs.Prelude.{ReadJournals, ReadNode, Line, Head, Node, Happened, End, events_of, node_journal, nodes_of, IsNodeJournal, IsInRange, began, on_last, with_event, with_line, IsNodeBefore}
+use Rattle.thp_journal_reader.specs.Prelude.{ReadJournals, ReadNode, Line, Head, Node, Happened, End, node_events, node_journal, nodes_of, IsNodeJournal, IsLineInRange, began, on_last, with_event, with_line, IsNodeBefore}
 
 -- ---- the events of a node
 
@@ -21,8 +21,8 @@ least_none : (shape : Shape) → with_least_blocks shape [] ≡ []
 unfolding with_least_blocks
 least_none shape = refl
 
--- a line that tells no event adds none to the node before it
-events_of-other : (lines : List Line) (line : Line) → events_of (line ∷ []) ≡ [] → events_of (lines ++ line ∷ []) ≡ events_of lines
+-- a line that reports no event adds none to the node before it
+events_of-other : (lines : List Line) (line : Line) → node_events (line ∷ []) ≡ [] → node_events (lines ++ line ∷ []) ≡ node_events lines
 events_of-other [] line none = none
 events_of-other (Head version ∷ lines) line none = events_of-other lines line none
 events_of-other (Node number shape ∷ lines) line none = refl
@@ -32,14 +32,14 @@ events_of-other (End ∷ lines) line none = events_of-other lines line none
 -- behind these lines no other node begins, and one more event is one more of the node before them
 pub record AddsHere (number : ℕ) (lines : List Line) (event : Event) : Type 0 where
   pub none : nodes_of number lines ≡ []
-  pub here : events_of (lines ++ Happened event ∷ []) ≡ events_of lines ++ event ∷ []
+  pub here : node_events (lines ++ Happened event ∷ []) ≡ node_events lines ++ event ∷ []
 
 -- among these lines another node begins, and one more event is none of the node before them
 pub record AddsThere (number : ℕ) (lines : List Line) (event : Event) : Type 0 where
   pub node : ReadNode
   pub nodes : List ReadNode
   pub some : nodes_of number lines ≡ node ∷ nodes
-  pub there : events_of (lines ++ Happened event ∷ []) ≡ events_of lines
+  pub there : node_events (lines ++ Happened event ∷ []) ≡ node_events lines
 
 event_adds : (number : ℕ) (lines : List Line) (event : Event) → AddsHere number lines event ⊎ AddsThere number lines event
 event_adds number [] event = inl (record { none = refl; here = refl })
@@ -49,7 +49,7 @@ event_adds number (Head version ∷ lines) event =
       | inr t ↦ inr (record { node = t.node; nodes = t.nodes; some = t.some; there = t.there })
     ]
 event_adds number (Node n shape ∷ lines) event =
-    inr (record { node = node_journal (number + 1) shape (events_of lines); nodes = nodes_of (number + 1) lines; some = refl; there = refl })
+    inr (record { node = node_journal (number + 1) shape (node_events lines); nodes = nodes_of (number + 1) lines; some = refl; there = refl })
 event_adds number (Happened first ∷ lines) event =
     elim (event_adds (number + 1) lines event) [
       | inl h ↦ inl (record { none = h.none; here = ap (λ (k : History). first ∷ k) h.here })
@@ -73,17 +73,17 @@ module _ (number : ℕ) (shape : Shape) (lines : List Line) where
   journal_in_front h k nodes more e f = ap (λ (g : History). node_journal number shape g ∷ nodes) e ∙ ap (λ (ns : List ReadNode). node_journal number shape k ∷ ns) f
 
   -- one more event, where no other node begins before it
-  event_here : (event : Event) (nodes more : List ReadNode) (h : History) → nodes ≡ [] → more ≡ on_last (with_event event) nodes → h ≡ events_of lines ++ event ∷ []
-      → node_journal number shape h ∷ more ≡ on_last (with_event event) (node_journal number shape (events_of lines) ∷ nodes)
+  event_here : (event : Event) (nodes more : List ReadNode) (h : History) → nodes ≡ [] → more ≡ on_last (with_event event) nodes → h ≡ node_events lines ++ event ∷ []
+      → node_journal number shape h ∷ more ≡ on_last (with_event event) (node_journal number shape (node_events lines) ∷ nodes)
   event_here event nodes more h none e here =
       let nothing : more ≡ [] = e ∙ ap (λ (ns : List ReadNode). on_last (with_event event) ns) none in
-      journal_in_front h (events_of lines ++ event ∷ []) more [] here nothing
-      ∙ ap (λ (k : History). record { shape = shape; first_line = number; events = k } ∷ []) (least_push shape (events_of lines) event)
-      ∙ ap (λ (ns : List ReadNode). on_last (with_event event) (node_journal number shape (events_of lines) ∷ ns)) (sym none)
+      journal_in_front h (node_events lines ++ event ∷ []) more [] here nothing
+      ∙ ap (λ (k : History). record { shape = shape; first_line = number; events = k } ∷ []) (least_push shape (node_events lines) event)
+      ∙ ap (λ (ns : List ReadNode). on_last (with_event event) (node_journal number shape (node_events lines) ∷ ns)) (sym none)
 
   -- and where one does
-  event_there : (event : Event) (nodes more : List ReadNode) (node : ReadNode) (others : List ReadNode) (h : History) → nodes ≡ node ∷ others → more ≡ on_last (with_event event) nodes → h ≡ events_of lines
-      → node_journal number shape h ∷ more ≡ on_last (with_event event) (node_journal number shape (events_of lines) ∷ nodes)
+  event_there : (event : Event) (nodes more : List ReadNode) (node : ReadNode) (others : List ReadNode) (h : History) → nodes ≡ node ∷ others → more ≡ on_last (with_event event) nodes → h ≡ node_events lines
+      → node_journal number shape h ∷ more ≡ on_last (with_event event) (node_journal number shape (node_events lines) ∷ nodes)
   event_there event nodes more node others h some e there = grind (arith, journal_in_front)
 
 -- the first line of a text begins the first node, if any
@@ -97,11 +97,11 @@ nodes_of-push number (Head version ∷ lines) line = nodes_of-push (number + 1) 
 nodes_of-push number (Happened event ∷ lines) line = nodes_of-push (number + 1) lines line ∙ one_further number lines (nodes_of (number + 1) lines) line
 nodes_of-push number (End ∷ lines) line = nodes_of-push (number + 1) lines line ∙ one_further number lines (nodes_of (number + 1) lines) line
 nodes_of-push number (Node n shape ∷ lines) (Head version) =
-    journal_in_front (number + 1) shape lines (events_of (lines ++ Head version ∷ [])) (events_of lines) _ _ (events_of-other lines (Head version) refl) (nodes_of-push (number + 1) lines (Head version))
+    journal_in_front (number + 1) shape lines (node_events (lines ++ Head version ∷ [])) (node_events lines) _ _ (events_of-other lines (Head version) refl) (nodes_of-push (number + 1) lines (Head version))
 nodes_of-push number (Node n shape ∷ lines) End =
-    journal_in_front (number + 1) shape lines (events_of (lines ++ End ∷ [])) (events_of lines) _ _ (events_of-other lines End refl) (nodes_of-push (number + 1) lines End)
+    journal_in_front (number + 1) shape lines (node_events (lines ++ End ∷ [])) (node_events lines) _ _ (events_of-other lines End refl) (nodes_of-push (number + 1) lines End)
 nodes_of-push number (Node n shape ∷ lines) (Node m other) =
-    journal_in_front (number + 1) shape lines (events_of (lines ++ Node m other ∷ [])) (events_of lines) _ _ (events_of-other lines (Node m other) refl)
+    journal_in_front (number + 1) shape lines (node_events (lines ++ Node m other ∷ [])) (node_events lines) _ _ (events_of-other lines (Node m other) refl)
     (nodes_of-push (number + 1) lines (Node m other) ∙ one_further number lines (nodes_of (number + 1) lines) (Node m other))
 nodes_of-push number (Node n shape ∷ lines) (Happened event) =
     elim (event_adds (number + 1) lines event) [
@@ -140,7 +140,7 @@ last_later number event (node ∷ next ∷ nodes) all =
     All-cons (IsNodeBefore (number + 1)) node (on_last (with_event event) (next ∷ nodes)) (later number node (all 0 node (omega arith)))
     (last_later number event (next ∷ nodes) (All-tail (IsNodeBefore number) node (next ∷ nodes) all))
 
-each_with_line : (number : ℕ) (nodes : List ReadNode) (line : Line) → IsInRange line → All (IsNodeBefore number) nodes → All (IsNodeBefore (number + 1)) (with_line number nodes line)
+each_with_line : (number : ℕ) (nodes : List ReadNode) (line : Line) → IsLineInRange line → All (IsNodeBefore number) nodes → All (IsNodeBefore (number + 1)) (with_line number nodes line)
 each_with_line number nodes (Head version) in-range all = all_later number nodes all
 each_with_line number nodes End in-range all = all_later number nodes all
 each_with_line number nodes (Happened event) in-range all = last_later number event nodes all
@@ -148,7 +148,7 @@ each_with_line number nodes (Node n shape) in-range all =
     let here : number + 1 + 0 ≤ number + 1 = omega arith in
     All-push (IsNodeBefore (number + 1)) nodes (began (number + 1) shape) (all_later number nodes all) (record { shape = in-range.1; lines = here })
 
-pub each_step : (number : ℕ) (old new : List ReadNode) (line : Line) → new ≡ with_line number old line → IsInRange line → All (IsNodeBefore number) old → All (IsNodeBefore (number + 1)) new
+pub each_step : (number : ℕ) (old new : List ReadNode) (line : Line) → new ≡ with_line number old line → IsLineInRange line → All (IsNodeBefore number) old → All (IsNodeBefore (number + 1)) new
 each_step number old new line is in-range all = rw is (each_with_line number old line in-range all)
 
 in_range : (number : ℕ) (node : ReadNode) → number ≤ 16777217 → IsNodeBefore number node → IsNodeJournal node
@@ -165,5 +165,5 @@ all_in_range number (node ∷ nodes) le all =
 pub if_ok : {A E : Type 0} (r : Result A E) (P Q : A → Type 0) → IfOk r P → ((x : A) → P x → Q x) → IfOk r Q
 if_ok x y z h f = grind arith
 
-pub tells_memory : {A : Type 0} (r : Result A ReadFault) (read : Result ReadJournals Fault) → IfErr r (λ fault. fault ≡ OutOfMemory) → IfErr r (ReportsFault read)
-tells_memory x read h = grind arith
+pub reports_memory : {A : Type 0} (r : Result A ReadFault) (read : Result ReadJournals Fault) → IfErr r (λ fault. fault ≡ OutOfMemory) → IfErr r (ReportsFault read)
+reports_memory x read h = grind arith

@@ -9,9 +9,9 @@ use Rattle.thp_live_pages.specs.Prelude.{least_of}
 use Rattle.thp_journal_reader.specs.declared.page_blocks.Allocation.{Allocation}
 use Rattle.thp_journal_reader.specs.declared.page_blocks.PageRecord.{PageRecord}
 use Rattle.thp_journal_reader.specs.declared.page_blocks.PageRecord.TheVariants.{Freed, Holds}
-use Rattle.thp_journal_reader.specs.Chains.{IsChain, IsCovered}
+use Rattle.thp_journal_reader.specs.Chains.{IsAllocationChain, IsCovered}
 use Rattle.thp_journal_reader.specs.Freeing.{freed_page}
-use Rattle.thp_journal_reader.specs.HeldBlocks.{Keeps}
+use Rattle.thp_journal_reader.specs.HeldBlocks.{KeepsBlocks}
 use Rattle.thp_journal_reader.specs.BlocksState.{BlocksState}
 use Rattle.thp_journal_reader.proofs.KeepSteps.{least_is, keeps_quiet, keeps_alloc, keeps_alloc_freed, keeps_covered, keeps_free, keeps_free_again}
 
@@ -25,59 +25,59 @@ pub placed_alloc : (e : Event) (p x b l : ℕ) → e.what ≡ Alloc p x → b �
 placed_alloc e p x b l w s = ap (λ n. by e.caller (Alloc p n)) s ∙ sym (ap (λ (v : What). event_with l (by e.caller v)) w)
 
 -- the least free block of the events so far
-pub least_now : (s : Shape) (h : History) (counts : List ℕ) (known : ℕ → PageRecord) (allocs : List Allocation) (b : ℕ) (v : BlocksState) → Keeps s h counts known allocs →
+pub least_now : (s : Shape) (h : History) (counts : List ℕ) (known : ℕ → PageRecord) (allocs : List Allocation) (b : ℕ) (v : BlocksState) → KeepsBlocks s h counts known allocs →
     b ≡ least_of counts → record { shape = s; history = h } ≡ v → b ≡ least_free v.shape v.history
 least_now s h counts known allocs b v k e f = e ∙ least_is s h counts known allocs k ∙ ap (λ (u : BlocksState). least_free u.shape u.history) f
 
 -- the history after an event that is known
-told_as : (h : History) (e : Event) (w : What) → e.what ≡ w → h ++ by e.caller w ∷ [] ≡ h ++ e ∷ []
-told_as h e w f = sym (ap (λ (v : What). h ++ by e.caller v ∷ []) f)
+reported_as : (h : History) (e : Event) (w : What) → e.what ≡ w → h ++ by e.caller w ∷ [] ≡ h ++ e ∷ []
+reported_as h e w f = sym (ap (λ (v : What). h ++ by e.caller v ∷ []) f)
 
 -- an allocation of a page that wasn't freed
 pub noted_alloc : (s : Shape) (h after : History) (counts others : List ℕ) (known known_then : ℕ → PageRecord) (allocs more : List Allocation) (e : Event) (p x : ℕ) (before : Option ℕ) (k : PageRecord) →
-    Keeps s h counts known allocs → e.what ≡ Alloc p x → x < s.blocks → k ≡ known p → k ≡ Holds before → after ≡ h ++ e ∷ [] → others ≡ set counts x (get_or counts x 0 + 1) →
-    ((q : ℕ) → known_then q ≡ cond (nat_eq q p) (Holds (Some (length allocs))) (known q)) → more ≡ allocs ++ record { block = x; before = before } ∷ [] → Keeps s after others known_then more
+    KeepsBlocks s h counts known allocs → e.what ≡ Alloc p x → x < s.blocks → k ≡ known p → k ≡ Holds before → after ≡ h ++ e ∷ [] → others ≡ set counts x (get_or counts x 0 + 1) →
+    ((q : ℕ) → known_then q ≡ cond (nat_eq q p) (Holds (Some (length allocs))) (known q)) → more ≡ allocs ++ record { block = x; before = before } ∷ [] → KeepsBlocks s after others known_then more
 noted_alloc s h after counts others known known_then allocs more e p x before k keeps w inside f g a o t m =
-    let done : Keeps s (h ++ by e.caller (Alloc p x) ∷ []) (set counts x (get_or counts x 0 + 1)) known_then (allocs ++ record { block = x; before = before } ∷ []) =
+    let done : KeepsBlocks s (h ++ by e.caller (Alloc p x) ∷ []) (set counts x (get_or counts x 0 + 1)) known_then (allocs ++ record { block = x; before = before } ∷ []) =
     keeps_alloc s h counts known known_then allocs e.caller p x before keeps (sym f ∙ g) (subst (λ n. x < n) (sym keeps.blocks) inside) t in
-    let P : History → Type 0 = λ i. Keeps s i (set counts x (get_or counts x 0 + 1)) known_then (allocs ++ record { block = x; before = before } ∷ []) in
-    let Q : List ℕ → Type 0 = λ i. Keeps s after i known_then (allocs ++ record { block = x; before = before } ∷ []) in
-    let R : List Allocation → Type 0 = λ i. Keeps s after others known_then i in
-    subst R (sym m) (subst Q (sym o) (subst P (told_as h e (Alloc p x) w ∙ sym a) done))
+    let P : History → Type 0 = λ i. KeepsBlocks s i (set counts x (get_or counts x 0 + 1)) known_then (allocs ++ record { block = x; before = before } ∷ []) in
+    let Q : List ℕ → Type 0 = λ i. KeepsBlocks s after i known_then (allocs ++ record { block = x; before = before } ∷ []) in
+    let R : List Allocation → Type 0 = λ i. KeepsBlocks s after others known_then i in
+    subst R (sym m) (subst Q (sym o) (subst P (reported_as h e (Alloc p x) w ∙ sym a) done))
 
 -- an allocation of a page that was freed
 pub noted_alloc_freed : (s : Shape) (h after : History) (counts : List ℕ) (known : ℕ → PageRecord) (allocs : List Allocation) (e : Event) (p x : ℕ) (k : PageRecord) →
-    Keeps s h counts known allocs → e.what ≡ Alloc p x → k ≡ known p → ((last : Option ℕ) → k ≡ Holds last → ⊥) → after ≡ h ++ e ∷ [] → Keeps s after counts known allocs
+    KeepsBlocks s h counts known allocs → e.what ≡ Alloc p x → k ≡ known p → ((last : Option ℕ) → k ≡ Holds last → ⊥) → after ≡ h ++ e ∷ [] → KeepsBlocks s after counts known allocs
 noted_alloc_freed s h after counts known allocs e p x k keeps w f g a =
-    let P : History → Type 0 = λ i. Keeps s i counts known allocs in
-    subst P (told_as h e (Alloc p x) w ∙ sym a) (keeps_alloc_freed s h counts known allocs e.caller p x keeps (sym f ∙ is_freed k g)) where
+    let P : History → Type 0 = λ i. KeepsBlocks s i counts known allocs in
+    subst P (reported_as h e (Alloc p x) w ∙ sym a) (keeps_alloc_freed s h counts known allocs e.caller p x keeps (sym f ∙ is_freed k g)) where
       is_freed : (k : PageRecord) → ((last : Option ℕ) → k ≡ Holds last → ⊥) → k ≡ Freed
       is_freed Freed g = refl
       is_freed (Holds last) g = absurd (g last refl)
 
 -- the blocks of a page that an event frees are held
 pub noted_covered : (s : Shape) (h : History) (counts : List ℕ) (known : ℕ → PageRecord) (allocs kept : List Allocation) (e : Event) (p : ℕ) (last : Option ℕ) (k : PageRecord) →
-    Keeps s h counts known allocs → freed_page e.what ≡ Some p → k ≡ known p → k ≡ Holds last → kept ≡ allocs → IsCovered kept last counts
+    KeepsBlocks s h counts known allocs → freed_page e.what ≡ Some p → k ≡ known p → k ≡ Holds last → kept ≡ allocs → IsCovered kept last counts
 noted_covered s h counts known allocs kept e p last k keeps w f g a =
     subst (λ (i : List Allocation). IsCovered i last counts) (sym a) (keeps_covered s h counts known allocs e p last keeps (sym f ∙ g) w (freed_other e.what p w))
 
 -- a page is freed
 pub noted_freed : (s : Shape) (h after : History) (counts others : List ℕ) (known known_then : ℕ → PageRecord) (allocs kept : List Allocation) (e : Event) (p : ℕ) (last : Option ℕ) (k : PageRecord) →
-    Keeps s h counts known allocs → freed_page e.what ≡ Some p → k ≡ known p → k ≡ Holds last → after ≡ h ++ e ∷ [] →
+    KeepsBlocks s h counts known allocs → freed_page e.what ≡ Some p → k ≡ known p → k ≡ Holds last → after ≡ h ++ e ∷ [] →
     ((q : ℕ) → known_then q ≡ cond (nat_eq q p) Freed (known q)) → kept ≡ allocs → length others ≡ length counts →
-    ((bs : List ℕ) → IsChain kept (length kept) last bs → (b : ℕ) → get_or others b 0 + count_by (nat_eq b) bs ≡ get_or counts b 0) → Keeps s after others known_then kept
+    ((bs : List ℕ) → IsAllocationChain kept (length kept) last bs → (b : ℕ) → get_or others b 0 + count_by (nat_eq b) bs ≡ get_or counts b 0) → KeepsBlocks s after others known_then kept
 noted_freed s h after counts others known known_then allocs kept e p last k keeps w f g a t same size given =
-    let G : List Allocation → Type 0 = λ i. (bs : List ℕ) → IsChain i (length i) last bs → (b : ℕ) → get_or others b 0 + count_by (nat_eq b) bs ≡ get_or counts b 0 in
-    let done : Keeps s (h ++ e ∷ []) others known_then allocs = keeps_free s h counts others known known_then allocs e p last keeps (sym f ∙ g) w (freed_other e.what p w) t size (subst G same given) in
-    let P : History → Type 0 = λ i. Keeps s i others known_then allocs in
-    let R : List Allocation → Type 0 = λ i. Keeps s after others known_then i in
+    let G : List Allocation → Type 0 = λ i. (bs : List ℕ) → IsAllocationChain i (length i) last bs → (b : ℕ) → get_or others b 0 + count_by (nat_eq b) bs ≡ get_or counts b 0 in
+    let done : KeepsBlocks s (h ++ e ∷ []) others known_then allocs = keeps_free s h counts others known known_then allocs e p last keeps (sym f ∙ g) w (freed_other e.what p w) t size (subst G same given) in
+    let P : History → Type 0 = λ i. KeepsBlocks s i others known_then allocs in
+    let R : List Allocation → Type 0 = λ i. KeepsBlocks s after others known_then i in
     subst R (sym same) (subst P (sym a) done)
 
 -- a page is freed once more
 pub noted_freed_again : (s : Shape) (h after : History) (counts : List ℕ) (known : ℕ → PageRecord) (allocs : List Allocation) (e : Event) (p : ℕ) (k : PageRecord) →
-    Keeps s h counts known allocs → freed_page e.what ≡ Some p → k ≡ known p → ((last : Option ℕ) → k ≡ Holds last → ⊥) → after ≡ h ++ e ∷ [] → Keeps s after counts known allocs
+    KeepsBlocks s h counts known allocs → freed_page e.what ≡ Some p → k ≡ known p → ((last : Option ℕ) → k ≡ Holds last → ⊥) → after ≡ h ++ e ∷ [] → KeepsBlocks s after counts known allocs
 noted_freed_again s h after counts known allocs e p k keeps w f g a =
-    let P : History → Type 0 = λ i. Keeps s i counts known allocs in
+    let P : History → Type 0 = λ i. KeepsBlocks s i counts known allocs in
     subst P (sym a) (keeps_free_again s h counts known allocs e p keeps (sym f ∙ is_freed k g) w (freed_other e.what p w)) where
       is_freed : (k : PageRecord) → ((last : Option ℕ) → k ≡ Holds last → ⊥) → k ≡ Freed
       is_freed Freed g = refl
@@ -85,9 +85,9 @@ noted_freed_again s h after counts known allocs e p k keeps w f g a =
 
 -- an event that neither allocates nor frees
 pub noted_quiet : (s : Shape) (h after : History) (counts : List ℕ) (known : ℕ → PageRecord) (allocs : List Allocation) (e : Event) →
-    Keeps s h counts known allocs → freed_page e.what ≡ None → is_alloc e.what ≡ false → after ≡ h ++ e ∷ [] → Keeps s after counts known allocs
+    KeepsBlocks s h counts known allocs → freed_page e.what ≡ None → is_alloc e.what ≡ false → after ≡ h ++ e ∷ [] → KeepsBlocks s after counts known allocs
 noted_quiet s h after counts known allocs e keeps f n a =
-    subst (λ (i : History). Keeps s i counts known allocs) (sym a) (keeps_quiet s h counts known allocs e keeps f n)
+    subst (λ (i : History). KeepsBlocks s i counts known allocs) (sym a) (keeps_quiet s h counts known allocs e keeps f n)
 
 -- an event that isn't an allocation
 pub other_is : (w : What) → ((p b : ℕ) → w ≡ Alloc p b → ⊥) → is_alloc w ≡ false

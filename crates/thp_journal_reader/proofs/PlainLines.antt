@@ -6,10 +6,10 @@ use Rattle.thp_history.specs.declared.events.Event.{Event}
 use Rattle.thp_history.specs.declared.events.Outcome.{Outcome}
 use Rattle.thp_script.specs.declared.fault.TextKind.{TextKind}
 use Rattle.thp_script.specs.declared.fault.TextKind.TheVariants.{BadByte, BadWord}
-use Rattle.thp_script.specs.Prelude.{number_up_to, one_word, two_words, fault_of_line, is_empty, is_printable, Text, words_of}
+use Rattle.thp_script.specs.Prelude.{number_up_to, one_word, two_words, fault_of_line, is_empty, is_printable, Text, words_in_line}
 use Rattle.thp_script.proofs.LineLaws.{IsPlain, bind_ok, none_empty, ok_value, one_plain, pieces_printable, plain_word, word_cases}
 use Rattle.thp_history.specs.declared.page_call.Loss.{Loss}
-use Rattle.thp_journal_reader.specs.Prelude.{EventWord, OfPage, OfRange, OfLoss, UnmapSub, Split, Close, PageWord, RangeWord, Line, Version, Plain, Orders, Underused, caller_number, close_event, event_by, event_of, loss_event, loss_words, no_words, outcome_and_word, page_event, page_number, range_event, range_loss_words, range_number, split_event, three_words, unmap_event, event_word, outcome_of, before, by_words, end_of, event_line, head_of, line_by, line_of, node_of, node_with, number_between, ordered_node, plain_node, threshold_of, underused_node, version_of, set_of_text}
+use Rattle.thp_journal_reader.specs.Prelude.{EventWord, OfPage, OfRange, OfLoss, UnmapSub, Split, Close, PageWord, RangeWord, Line, Version, Plain, Orders, Underused, caller_number, close_event, event_by, event_of, loss_event, loss_words, no_words, outcome_and_word, page_event, page_number, range_event, range_loss_words, range_number, split_event, three_words, unmap_event, event_word, outcome_of, before, line_by_words, end_line, parsed_event_line, head_of, line_by, line_of, node_of, node_with, number_between, ordered_node, plain_node, node_threshold_of, underused_node, parsed_version, set_of_text}
 use Rattle.thp_journal_reader.proofs.PlainWords.{event_word_plain, number_plain, one_or, outcome_plain, set_plain}
 
 -- ---- so many words
@@ -153,8 +153,8 @@ event_plain v caller (name ∷ words) event e =
 
 -- ---- nodes
 
-version_plain : (word : Text) (v : Version) → version_of word ≡ Ok v → IsPlain word
-unfolding version_of
+version_plain : (word : Text) (v : Version) → parsed_version word ≡ Ok v → IsPlain word
+unfolding parsed_version
 version_plain word v e =
     one_or word (codes "1") _ _ v e refl refl
     (λ e1. one_or word (codes "2") _ _ v e1 refl refl
@@ -165,7 +165,7 @@ head_plain : (words : List Text) (line : Line) → head_of words ≡ Ok line →
 unfolding head_of
 head_plain words line e =
     let w = bind_ok (one_word words) _ line e in
-    let v = bind_ok (version_of w.0) _ line w.2 in
+    let v = bind_ok (parsed_version w.0) _ line w.2 in
     one_word_plain words w.0 w.1 (version_plain w.0 v.0 v.1)
 
 before_plain : (key : Text) (words : List Text) (w : Text × List Text) → before key words ≡ Ok w → IsPlain key → IsPlain w.0 → All IsPlain w.1 → All IsPlain words
@@ -183,8 +183,8 @@ between_plain least most n word e =
     let m = bind_ok (number_up_to most word) _ n e in
     number_plain most m.0 word m.1
 
-threshold_plain : (order : ℕ) (word : Text) (t : Option ℕ) → threshold_of order word ≡ Ok t → IsPlain word
-unfolding threshold_of
+threshold_plain : (order : ℕ) (word : Text) (t : Option ℕ) → node_threshold_of order word ≡ Ok t → IsPlain word
+unfolding node_threshold_of
 threshold_plain order word t e =
     one_or word (codes "off") _ _ t e refl refl
     (λ f.
@@ -218,7 +218,7 @@ node_plain Underused words line e =
     let order_word = bind_ok (before (codes "underused") blocks.0.1) _ line blocks.2 in
     let threshold_word = bind_ok (one_word order_word.0.1) _ line order_word.2 in
     let order = bind_ok (number_between 2 9 order_word.0.0) _ line threshold_word.2 in
-    let threshold = bind_ok (threshold_of order.0 threshold_word.0) _ line order.2 in
+    let threshold = bind_ok (node_threshold_of order.0 threshold_word.0) _ line order.2 in
     let p = node_with_plain number.0.0 blocks.0.0 order.0 threshold.0 line threshold.2 in
     before_plain (codes "blocks") words number.0 number.1 (record { printable = refl; some = refl }) p.0
     (before_plain (codes "order") number.0.1 blocks.0 blocks.1 (record { printable = refl; some = refl }) p.1
@@ -230,17 +230,17 @@ node_plain Underused words line e =
 named_plain : (name word : Text) (words : List Text) → name ≡ word → list_all is_printable word ≡ true → is_empty word ≡ false → All IsPlain words → All IsPlain (name ∷ words)
 named_plain name word words is printable some plain = All-cons IsPlain name words (plain_word name word is (record { printable = printable; some = some })) plain
 
-end_plain : (words : List Text) (line : Line) → end_of words ≡ Ok line → All IsPlain words
+end_plain : (words : List Text) (line : Line) → end_line words ≡ Ok line → All IsPlain words
 end_plain words line e =
     let nothing = bind_ok (no_words words) _ line e in
     no_words_plain words nothing.0 nothing.1
 
-event_line_plain : (v : Version) (caller : Text) (words : List Text) (line : Line) → event_line v caller words ≡ Ok line → All IsPlain (caller ∷ words)
+event_line_plain : (v : Version) (caller : Text) (words : List Text) (line : Line) → parsed_event_line v caller words ≡ Ok line → All IsPlain (caller ∷ words)
 event_line_plain v caller words line e =
     let event = bind_ok (event_of v caller words) _ line e in
     event_plain v caller words event.0 event.1
 
-line_plain : (v : Version) (words : List Text) (line : Line) → by_words v words ≡ Ok line → All IsPlain words
+line_plain : (v : Version) (words : List Text) (line : Line) → line_by_words v words ≡ Ok line → All IsPlain words
 unfolding line_by
 line_plain v [] line e = absurd cc
 line_plain v (name ∷ words) line e =
@@ -258,18 +258,18 @@ line_plain v (name ∷ words) line e =
     ]
 
 -- a line whose words read as something says that
-pub line_of-read : (v : Version) (text : Text) (line : Line) → Ok line ≡ by_words v (words_of text) → Ok line ≡ line_of v text
+pub line_of-read : (v : Version) (text : Text) (line : Line) → Ok line ≡ line_by_words v (words_in_line text) → Ok line ≡ line_of v text
 unfolding line_of
 line_of-read v text line e =
-    let plain = line_plain v (words_of text) line (sym e) in
-    rw (pieces_printable text plain, none_empty (words_of text) plain) e
+    let plain = line_plain v (words_in_line text) line (sym e) in
+    rw (pieces_printable text plain, none_empty (words_in_line text) plain) e
 
 -- and one whose words don't has the first fault that applies
-pub line_of-fails : (v : Version) (text : Text) (reading : TextKind) → Err reading ≡ by_words v (words_of text) → Err (fault_of_line text reading) ≡ line_of v text
+pub line_of-fails : (v : Version) (text : Text) (reading : TextKind) → Err reading ≡ line_by_words v (words_in_line text) → Err (fault_of_line text reading) ≡ line_of v text
 unfolding line_of
-line_of-fails v text reading e = go (list_all is_printable text) (list_any is_empty (words_of text))
+line_of-fails v text reading e = go (list_all is_printable text) (list_any is_empty (words_in_line text))
   where
-    go : (b c : Bool) → Err (cond b (cond c BadWord reading) BadByte) ≡ cond (not b) (Err BadByte) (cond c (Err BadWord) (by_words v (words_of text)))
+    go : (b c : Bool) → Err (cond b (cond c BadWord reading) BadByte) ≡ cond (not b) (Err BadByte) (cond c (Err BadWord) (line_by_words v (words_in_line text)))
     go false c = refl
     go true true = refl
     go true false = e

@@ -10,7 +10,7 @@ use Rattle.thp_script.specs.declared.fault.TextKind.TheVariants.{BadNumber, BadS
 use Rattle.thp_script.specs.Prelude.{number_up_to, is_empty, is_printable, Text, number_of, pieces_at}
 use Rattle.thp_script.proofs.LineLaws.{IsPlain, bind_ok, number_read, ok_value, read, word_cases}
 use Rattle.thp_script.proofs.PieceLaws.{has_first, HasFirst}
-use Rattle.thp_journal_reader.specs.Prelude.{EventWord, Version, common_word, event_word, later_word, outcome_of, Run, run_from, run_of, run_of_numbers, runs_of, set_of_runs, set_of_text, subpage_number}
+use Rattle.thp_journal_reader.specs.Prelude.{EventWord, Version, common_word, event_word, later_word, outcome_of, ReadRun, run_from, run_of, run_of_numbers, runs_of, set_of_runs, set_of_text, subpage_number}
 
 -- ---- words that are looked up
 
@@ -117,18 +117,18 @@ joined_printable c separator (b ∷ text) all = by (b == c) refl (has_first c te
         and_from (is_printable b) (list_all is_printable text) p.0
         (rest (subst (λ (ws : List Text). All Printable ws) (sym f.2) (All-cons Printable f.0 f.1 p.1 (All-tail Printable (b ∷ f.0) f.1 own))))
 
-numbers_printable : (words : List Text) (run : Run) → run_of_numbers words ≡ Ok run → All Printable words
+numbers_printable : (words : List Text) (run : ReadRun) → run_of_numbers words ≡ Ok run → All Printable words
 numbers_printable x run e = grind (arith, bind_ok, All-cons, subpage_plain, All-nil)
 
-run_printable : (text : Text) (run : Run) → run_of text ≡ Ok run → Printable text
+run_printable : (text : Text) (run : ReadRun) → run_of text ≡ Ok run → Printable text
 unfolding run_of
 run_printable text run e = joined_printable 45 refl text (numbers_printable (pieces_at 45 text) run e)
 
-run_from_printable : (least : ℕ) (text : Text) (run : Run) → run_from least text ≡ Ok run → Printable text
+run_from_printable : (least : ℕ) (text : Text) (run : ReadRun) → run_from least text ≡ Ok run → Printable text
 unfolding run_from
 run_from_printable least text run e = grind (arith, bind_ok, run_printable)
 
-runs_printable : (least : ℕ) (texts : List Text) (runs : List Run) → runs_of least texts ≡ Ok runs → All Printable texts
+runs_printable : (least : ℕ) (texts : List Text) (runs : List ReadRun) → runs_of least texts ≡ Ok runs → All Printable texts
 runs_printable least [] runs e = All-nil Printable
 runs_printable least (text ∷ texts) runs e =
     let run = bind_ok (run_from least text) _ runs e in

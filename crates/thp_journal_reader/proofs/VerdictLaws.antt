@@ -14,7 +14,7 @@ pub same_journals : (most : ℕ) (input bytes : List ℕ) → IsFrontOf most byt
 same_journals most input bytes read = grind (arith, cases_lt, journal_too_long, length-append, append-nil)
 
 pub verdict_of_input : (most : ℕ) (input bytes text : List ℕ) (legal : Bool) → IsFrontOf most bytes input → IsVerdictWithin most bytes legal text → IsVerdictWithin most input legal text
-verdict_of_input most input bytes text legal read v = record { journals = v.journals; spelled = sym (same_journals most input bytes read) ∙ v.spelled; illegal = v.illegal; told = v.told; free_choice = v.free_choice; answer = v.answer; written = v.written }
+verdict_of_input most input bytes text legal read v = record { journals = v.journals; spelled = sym (same_journals most input bytes read) ∙ v.spelled; illegal = v.illegal; reported = v.reported; free_choice = v.free_choice; answer = v.answer; written = v.written }
 
 pub fault_of_journal : (most : ℕ) (input bytes : List ℕ) (fault : Fault) → IsFrontOf most bytes input → journals_within most bytes ≡ Err fault → journals_within most input ≡ Err fault
-fault_of_journal most input bytes fault read told = sym (same_journals most input bytes read) ∙ told
+fault_of_journal most input bytes fault read reported = sym (same_journals most input bytes read) ∙ reported

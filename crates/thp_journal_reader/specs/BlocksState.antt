@@ -10,5 +10,5 @@ pub record BlocksState : Type 0 where
   pub history : History
 
 -- the same with one more event
-abbrev pub with_event : BlocksState → Event → BlocksState
-with_event b e = record { shape = b.shape; history = b.history ++ e ∷ [] }
+abbrev pub blocks_with : BlocksState → Event → BlocksState
+blocks_with b e = record { shape = b.shape; history = b.history ++ e ∷ [] }

@@ -15,23 +15,23 @@ use Rattle.thp_journal_reader.specs.Answers.{IsLegalNode, ReportsFirst, IsLegalF
 use Rattle.thp_journal_reader.specs.Reading.{with_line, IsNodeBefore}
 
 -- the nodes in numbered lines
-unfoldable pub nodes_told : List (ℕ × Line) → List ReadNode
-nodes_told lines = fold (λ nodes (l : ℕ × Line). with_line l.0 nodes l.1) [] lines
+unfoldable pub nodes_read : List (ℕ × Line) → List ReadNode
+nodes_read lines = fold (λ nodes (l : ℕ × Line). with_line l.0 nodes l.1) [] lines
 
 -- the node's shape and its events
 abbrev pub replay_of : ReadNode → Replayed
 replay_of node = record { shape = node.shape; history = node.events }
 
 -- the first illegal event remains the first
-abbrev pub first_of : Option Illegal → Illegal → Option Illegal
-first_of first illegal = option_or first (Some illegal)
+abbrev pub first_illegal : Option Illegal → Illegal → Option Illegal
+first_illegal first illegal = option_or first (Some illegal)
 
 -- an event is illegal, and the nodes after it are not followed
 abbrev pub has_stopped : Bool → Option Illegal → Bool
 has_stopped follows_all illegal = is_some illegal && not follows_all
 
 -- this is kept of the node: of its legal events, all or those before its first illegal event, and of that event
-pub record IsKept {K : Type 0} (keeps : Shape → History → Option Illegal → K → Type 0) (node : ReadNode) (kept : K) : Type 0 where
+pub record IsStored {K : Type 0} (keeps : Shape → History → Option Illegal → K → Type 0) (node : ReadNode) (kept : K) : Type 0 where
   pub front : History
   pub illegal : Option Illegal
   pub legal : IsLegalFront node front
@@ -40,7 +40,7 @@ pub record IsKept {K : Type 0} (keeps : Shape → History → Option Illegal →
 
 -- the same for each node, in order
 abbrev pub AreKept : {K : Type 0} → (Shape → History → Option Illegal → K → Type 0) → List ReadNode → List K → Type 0
-AreKept keeps = AllZip (IsKept keeps)
+AreKept keeps = AllZip (IsStored keeps)
 
 -- the last node is the current one: the replay is of its events, which are legal, and the next of them is on this line
 pub record EndsAt {K : Type 0} (keeps : Shape → History → Option Illegal → K → Type 0) (nodes : List ReadNode) (replay : Replayed) (next_line : ℕ) (kept : List K) : Type 0 where
@@ -68,7 +68,7 @@ FollowsBy replayed keeps follows_all nodes (Some node) next_line illegal kept = 
 FollowsBy replayed keeps follows_all nodes None next_line illegal kept = HasNone keeps follows_all nodes illegal kept
 
 -- what the follower knows of the nodes so far is right
-pub record Follows {F K : Type 0} (replayed : F → Replayed) (keeps : Shape → History → Option Illegal → K → Type 0) (follows_all : Bool) (nodes : List ReadNode) (follower : Follower F K) : Type 0 where
+pub record FollowerKnows {F K : Type 0} (replayed : F → Replayed) (keeps : Shape → History → Option Illegal → K → Type 0) (follows_all : Bool) (nodes : List ReadNode) (follower : Follower F K) : Type 0 where
   pub first : ReportsFirst nodes follower.illegal
   pub known : FollowsBy replayed keeps follows_all nodes follower.at_hand follower.next_line follower.illegal follower.kept.items
 
@@ -85,14 +85,14 @@ pub record StopsWith {K R : Type 0} (keeps : Shape → History → Option Illega
   pub more : K
   pub more_is : (before : Replayed) → leaves before rest → keeps before.shape before.history (Some found) more
   pub kept_are : new_kept ≡ kept ++ more ∷ []
-  pub illegal_is : new_illegal ≡ first_of illegal found
+  pub illegal_is : new_illegal ≡ first_illegal illegal found
 
 -- there is room for one more event of the current node
 abbrev pub HasRoomIn : ℕ → Replayed → Type 0
 HasRoomIn next_line replay = (length replay.history ≤ next_line) × (next_line ≤ max_counted)
 
-abbrev pub HasRoom : {F K : Type 0} → (F → Replayed) → Follower F K → Type 0
-HasRoom replayed follower = IfSome follower.at_hand (λ node. HasRoomIn follower.next_line (replayed node))
+abbrev pub FollowerHasRoom : {F K : Type 0} → (F → Replayed) → Follower F K → Type 0
+FollowerHasRoom replayed follower = IfSome follower.at_hand (λ node. HasRoomIn follower.next_line (replayed node))
 
 -- the first illegal event so far
 abbrev pub illegal_so_far : {F K : Type 0} → FollowedNodes F K → Option Illegal
@@ -100,9 +100,9 @@ illegal_so_far followed = followed.follower.illegal
 
 -- what is known of these nodes is right
 abbrev pub KnowsNodes : {F K : Type 0} → (F → Replayed) → (Shape → History → Option Illegal → K → Type 0) → Bool → List ReadNode → FollowedNodes F K → Type 0
-KnowsNodes replayed keeps follows_all nodes followed = Follows replayed keeps follows_all nodes followed.follower
+KnowsNodes replayed keeps follows_all nodes followed = FollowerKnows replayed keeps follows_all nodes followed.follower
 
 -- what is known is right for the nodes in the lines, which are before the line of this number
 pub record FollowsLines {F K : Type 0} (replayed : F → Replayed) (keeps : Shape → History → Option Illegal → K → Type 0) (follows_all : Bool) (number : ℕ) (nodes : FollowedNodes F K) : Type 0 where
-  pub each : All (IsNodeBefore number) (nodes_told nodes.lines)
-  pub follows : Follows replayed keeps follows_all (nodes_told nodes.lines) nodes.follower
+  pub each : All (IsNodeBefore number) (nodes_read nodes.lines)
+  pub follows : FollowerKnows replayed keeps follows_all (nodes_read nodes.lines) nodes.follower

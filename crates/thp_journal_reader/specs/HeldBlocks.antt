@@ -8,7 +8,7 @@ use Rattle.thp_history.specs.Prelude.{frees, History, count_of, some_event}
 use Rattle.thp_journal_reader.specs.declared.page_blocks.Allocation.{Allocation}
 use Rattle.thp_journal_reader.specs.declared.page_blocks.PageRecord.{PageRecord}
 use Rattle.thp_journal_reader.specs.declared.page_blocks.PageRecord.TheVariants.{Freed, Holds}
-use Rattle.thp_journal_reader.specs.Chains.{IsChain}
+use Rattle.thp_journal_reader.specs.Chains.{IsAllocationChain}
 
 -- page p wasn't freed
 abbrev pub is_unfreed : History → ℕ → Bool
@@ -35,10 +35,10 @@ blocks_of h p = fold (λ bs (e : Event). with_its_block p bs e.what) [] h
 -- the record of page p is right
 abbrev pub IsKnown : History → List Allocation → ℕ → PageRecord → Type 0
 IsKnown h allocs p Freed = is_unfreed h p ≡ false
-IsKnown h allocs p (Holds last) = (is_unfreed h p ≡ true) × IsChain allocs (length allocs) last (blocks_of h p)
+IsKnown h allocs p (Holds last) = (is_unfreed h p ≡ true) × IsAllocationChain allocs (length allocs) last (blocks_of h p)
 
 -- the numbers by block, the records of the pages and the linked allocations agree with the history
-pub record Keeps (s : Shape) (h : History) (counts : List ℕ) (known : ℕ → PageRecord) (allocs : List Allocation) : Type 0 where
+pub record KeepsBlocks (s : Shape) (h : History) (counts : List ℕ) (known : ℕ → PageRecord) (allocs : List Allocation) : Type 0 where
   pub blocks : length counts ≡ s.blocks
   pub some : 1 ≤ s.blocks
   pub held : (b : ℕ) → slice_index counts b ≡ times_held h b

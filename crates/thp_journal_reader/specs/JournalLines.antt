@@ -4,7 +4,7 @@ use Rattle.std.specs.List.{list_all, list_any}
 use Rattle.thp_history.specs.Prelude.{max_blocks, max_order, min_order}
 use Rattle.thp_script.specs.declared.fault.TextKind.{TextKind}
 use Rattle.thp_script.specs.declared.fault.TextKind.TheVariants.{BadByte, BadWord, BadNumber, BadOrder}
-use Rattle.thp_script.specs.Prelude.{number_up_to, one_word, max_nodes, is_empty, is_printable, ◌>>=◌, Text, words_of}
+use Rattle.thp_script.specs.Prelude.{number_up_to, one_word, max_nodes, is_empty, is_printable, ◌>>=◌, Text, words_in_line}
 use Rattle.thp_journal_reader.specs.declared.line.Line.{Line}
 use Rattle.thp_journal_reader.specs.declared.line.Line.TheVariants.{Head, Node, Happened, End}
 use Rattle.thp_journal_reader.specs.declared.line.Place.{Place}
@@ -14,8 +14,8 @@ use Rattle.thp_journal_writer.specs.declared.version.Version.TheVariants.{Plain,
 use Rattle.thp_journal_reader.specs.EventLines.{event_of, no_words}
 
 -- the version by its number
-unfoldable pub version_of : Text → Result Version TextKind
-version_of word =
+unfoldable pub parsed_version : Text → Result Version TextKind
+parsed_version word =
     if bytes_eq word (codes "1") then Ok Plain
     else if bytes_eq word (codes "2") then Ok Orders
     else if bytes_eq word (codes "3") then Ok Underused
@@ -25,7 +25,7 @@ version_of word =
 unfoldable pub head_of : List Text → Result Line TextKind
 head_of words = do
   word ← one_word words
-  version ← version_of word
+  version ← parsed_version word
   Ok (Head version)
 
 -- an operand, then this word, then others; the others are returned with it
@@ -40,8 +40,8 @@ number_between least most word = do
   if nat_le least number then Ok number else Err BadNumber
 
 -- `off`, or a number of subpages less than that of a page
-unfoldable pub threshold_of : ℕ → Text → Result (Option ℕ) TextKind
-threshold_of order word =
+unfoldable pub node_threshold_of : ℕ → Text → Result (Option ℕ) TextKind
+node_threshold_of order word =
     if bytes_eq word (codes "off") then Ok None
     else (number_up_to (2 ^ order - 1) word >>= λ threshold. Ok (Some threshold))
 
@@ -76,7 +76,7 @@ underused_node words = do
   order_word ← before (codes "underused") blocks.1
   threshold_word ← one_word order_word.1
   order ← number_between min_order max_order order_word.0
-  threshold ← threshold_of order threshold_word
+  threshold ← node_threshold_of order threshold_word
   node_with number.0 blocks.0 order threshold
 
 -- the line of a node, after its first word
@@ -86,31 +86,31 @@ node_of Orders words = ordered_node words
 node_of Underused words = underused_node words
 
 -- `end`, after its first word
-abbrev pub end_of : List Text → Result Line TextKind
-end_of words = no_words words >>= λ nothing. Ok End
+abbrev pub end_line : List Text → Result Line TextKind
+end_line words = no_words words >>= λ nothing. Ok End
 
 -- an event, by its caller's word and the others
-abbrev pub event_line : Version → Text → List Text → Result Line TextKind
-event_line v caller words = event_of v caller words >>= λ event. Ok (Happened event)
+abbrev pub parsed_event_line : Version → Text → List Text → Result Line TextKind
+parsed_event_line v caller words = event_of v caller words >>= λ event. Ok (Happened event)
 
 -- a line by its first word and the others
 unfoldable pub line_by : Version → Text → List Text → Result Line TextKind
 line_by v name words =
     if bytes_eq name (codes "thp-journal") then head_of words
     else if bytes_eq name (codes "node") then node_of v words
-    else if bytes_eq name (codes "end") then end_of words
-    else event_line v name words
+    else if bytes_eq name (codes "end") then end_line words
+    else parsed_event_line v name words
 
-abbrev pub by_words : Version → List Text → Result Line TextKind
-by_words v [] = Err BadWord
-by_words v (name ∷ words) = line_by v name words
+abbrev pub line_by_words : Version → List Text → Result Line TextKind
+line_by_words v [] = Err BadWord
+line_by_words v (name ∷ words) = line_by v name words
 
 -- the content of a whole line in a version, regardless of its position; the errors are tested in their order
 unfoldable pub line_of : Version → Text → Result Line TextKind
 line_of v text =
     if not (list_all is_printable text) then Err BadByte
-    else if list_any is_empty (words_of text) then Err BadWord
-    else by_words v (words_of text)
+    else if list_any is_empty (words_in_line text) then Err BadWord
+    else line_by_words v (words_in_line text)
 
 -- before the first line with the version, lines are read as those of version 1
 abbrev pub version_at : Place → Version
@@ -120,14 +120,14 @@ version_at (Ended version) = version
 
 -- The version is the first line, and the only one of its kind. Nodes are numbered in order; events and the end follow a node;
 -- nothing follows the end.
-abbrev pub may_stand : Place → Line → Bool
-may_stand Start (Head version) = true
-may_stand Start _ = false
-may_stand (Inside version nodes) (Head again) = false
-may_stand (Inside version nodes) (Node number shape) = number == nodes
-may_stand (Inside version nodes) (Happened event) = nat_lt 0 nodes
-may_stand (Inside version nodes) End = nat_lt 0 nodes
-may_stand (Ended version) line = false
+abbrev pub line_may_stand : Place → Line → Bool
+line_may_stand Start (Head version) = true
+line_may_stand Start _ = false
+line_may_stand (Inside version nodes) (Head again) = false
+line_may_stand (Inside version nodes) (Node number shape) = number == nodes
+line_may_stand (Inside version nodes) (Happened event) = nat_lt 0 nodes
+line_may_stand (Inside version nodes) End = nat_lt 0 nodes
+line_may_stand (Ended version) line = false
 
 -- the position after an allowed line: after so many nodes, or at the end
 abbrev pub place_after : Place → Line → Place
@@ -141,4 +141,4 @@ place_after place End = Ended (version_at place)
 unfoldable pub line_in : Place → Text → Result Line TextKind
 line_in place text = do
   line ← line_of (version_at place) text
-  if may_stand place line then Ok line else Err BadOrder
+  if line_may_stand place line then Ok line else Err BadOrder

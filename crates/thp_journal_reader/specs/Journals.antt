@@ -32,11 +32,11 @@ lines_from number place (text ∷ next ∷ texts) = do
   Ok (line ∷ lines)
 
 -- the events before the next node's line
-abbrev pub events_of : List Line → History
-events_of [] = []
-events_of (Happened event ∷ lines) = event ∷ events_of lines
-events_of (Node number shape ∷ lines) = []
-events_of (_ ∷ lines) = events_of lines
+abbrev pub node_events : List Line → History
+node_events [] = []
+node_events (Happened event ∷ lines) = event ∷ node_events lines
+node_events (Node number shape ∷ lines) = []
+node_events (_ ∷ lines) = node_events lines
 
 -- a node whose events begin on this line; each new page has the least block that holds no live page
 abbrev pub node_journal : ℕ → Shape → History → ReadNode
@@ -45,7 +45,7 @@ node_journal first_line shape events = record { shape = shape; first_line = firs
 -- the nodes of the lines from number `number` on
 abbrev pub nodes_of : ℕ → List Line → List ReadNode
 nodes_of number [] = []
-nodes_of number (Node n shape ∷ lines) = node_journal (number + 1) shape (events_of lines) ∷ nodes_of (number + 1) lines
+nodes_of number (Node n shape ∷ lines) = node_journal (number + 1) shape (node_events lines) ∷ nodes_of (number + 1) lines
 nodes_of number (_ ∷ lines) = nodes_of (number + 1) lines
 
 -- the journals in the lines

@@ -8,8 +8,8 @@ use Rattle.thp_journal_reader.specs.declared.follower.FollowedNodes.{FollowedNod
 use Rattle.thp_journal_reader.specs.declared.long_check.Illegal.{Illegal}
 use Rattle.thp_journal_reader.specs.declared.journals.ReadNode.{ReadNode}
 use Rattle.thp_journal_reader.specs.declared.journals.Nodes.{Nodes}
-use Rattle.thp_journal_reader.specs.Following.{nodes_told, FollowsLines}
-use Rattle.thp_journal_reader.specs.Reading.{nodes_in, IsNodeBefore, IsReading}
+use Rattle.thp_journal_reader.specs.Following.{nodes_read, FollowsLines}
+use Rattle.thp_journal_reader.specs.Reading.{nodes_in, IsNodeBefore, IsReadingNodes}
 
 node_later : (number : ℕ) (node : ReadNode) → IsNodeBefore number node → IsNodeBefore (number + 1) node
 node_later number node before = record { shape = before.shape; lines = le_trans before.lines (le-add_right number 1) }
@@ -17,9 +17,9 @@ node_later number node before = record { shape = before.shape; lines = le_trans 
 each_later : (number : ℕ) (nodes : List ReadNode) → All (IsNodeBefore number) nodes → All (IsNodeBefore (number + 1)) nodes
 each_later number nodes each = λ k d inside. node_later number _ (each k d inside)
 
-pub reads_later : (number : ℕ) (nodes : Option Nodes) → IsReading number nodes → IsReading (number + 1) nodes
+pub reads_later : (number : ℕ) (nodes : Option Nodes) → IsReadingNodes number nodes → IsReadingNodes (number + 1) nodes
 reads_later number nodes reads = record { along = reads.along; each = each_later number (nodes_in nodes) reads.each }
 
 pub follows_later : {F K : Type 0} (replayed : F → Replayed) (keeps : Shape → History → Option Illegal → K → Type 0) (follows_all : Bool) (number : ℕ) (nodes : FollowedNodes F K) →
     FollowsLines replayed keeps follows_all number nodes → FollowsLines replayed keeps follows_all (number + 1) nodes
-follows_later replayed keeps follows_all number nodes along = record { each = each_later number (nodes_told nodes.lines) along.each; follows = along.follows }
+follows_later replayed keeps follows_all number nodes along = record { each = each_later number (nodes_read nodes.lines) along.each; follows = along.follows }

@@ -5,6 +5,6 @@ use Rattle.thp_journal_reader.specs.declared.line.Line.{Line}
 use Rattle.thp_journal_reader.specs.declared.line.Line.TheVariants.{Node}
 
 -- the line is that of a node within the limits, with a valid shape
-abbrev pub IsInRange : Line → Type 0
-IsInRange (Node number shape) = (number ≤ 7) × IsShape shape
-IsInRange _ = ⊤
+abbrev pub IsLineInRange : Line → Type 0
+IsLineInRange (Node number shape) = (number ≤ 7) × IsShape shape
+IsLineInRange _ = ⊤

@@ -14,7 +14,7 @@ use Rattle.thp_journal_reader.specs.declared.journals.Nodes.{Nodes}
 use Rattle.thp_journal_reader.specs.declared.journals.OpenNode.{OpenNode}
 
 -- the blocks are those chosen for the node's shape and its events
-pub record GoesAlong (node : OpenNode) : Type 0 where
+pub record BlocksGoAlong (node : OpenNode) : Type 0 where
   pub shape_is : node.blocks.shape ≡ node.journal.shape
   pub history_is : node.blocks.history ≡ node.journal.events
 
@@ -53,8 +53,8 @@ pub record IsNodeBefore (number : ℕ) (node : ReadNode) : Type 0 where
   pub lines : node.first_line + length node.events ≤ number
 
 -- the blocks agree, and the nodes are before this line
-pub record IsReading (number : ℕ) (nodes : Option Nodes) : Type 0 where
-  pub along : IfSome nodes (λ n. GoesAlong n.last)
+pub record IsReadingNodes (number : ℕ) (nodes : Option Nodes) : Type 0 where
+  pub along : IfSome nodes (λ n. BlocksGoAlong n.last)
   pub each : All (IsNodeBefore number) (nodes_in nodes)
 
 -- the text after the last line has an error; if there is none, the journal is cut unless it has ended

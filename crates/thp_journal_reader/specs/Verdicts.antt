@@ -20,7 +20,7 @@ pub record IsVerdictWithin (most : ℕ) (input : List ℕ) (legal : Bool) (text 
   pub journals : ReadJournals
   pub spelled : journals_within most input ≡ Ok journals
   pub illegal : Option ℕ
-  pub told : ReportsIllegal journals.nodes illegal
+  pub reported : ReportsIllegal journals.nodes illegal
   -- if some choice of blocks makes all events legal, none is reported as illegal
   pub free_choice : All CanBeLegal journals.nodes → illegal ≡ None
   pub answer : legal ≡ is_legal illegal

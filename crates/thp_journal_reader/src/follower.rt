@@ -1,7 +1,7 @@
 //! Follows the nodes of a journal as its lines are read: replays their events without storing them, and keeps data of each node.
 ghost use Rattle.std.specs.Prelude.{◌≡◌, ◌≤◌, ◌∷◌, ◌++◌, ℕ, [], List, None, IfOk, OnOk};
 ghost use Rattle.thp_check.specs.Prelude.{Replayed};
-ghost use Rattle.thp_journal_reader.specs.Prelude.{began, follows_later, has_stopped, illegal_so_far, nodes_told, on_last, with_event, with_line, Follows, FollowsLines, FollowsWith, HasEnded, HasRoom, HasRoomIn, IsInRange, KnowsNodes, ReadNode, StopsWith};
+ghost use Rattle.thp_journal_reader.specs.Prelude.{began, follows_later, has_stopped, illegal_so_far, nodes_read, on_last, with_event, with_line, FollowerKnows, FollowsLines, FollowsWith, HasEnded, FollowerHasRoom, HasRoomIn, IsLineInRange, KnowsNodes, ReadNode, StopsWith};
 ghost use Rattle.thp_history.specs.Prelude.{event_with, least_free, IsShape};
 ghost use Rattle.thp_history.specs.declared.events.Event.{Event};
 ghost use Rattle.thp_history.specs.declared.events.What.TheVariants.{Alloc};
@@ -37,7 +37,7 @@ impl<K: Drop, F: FollowsNode<Kept = K>> Follower<F, K> {
 
     /// Ends the current node, if there is one.
     fn end(&mut self) -> Result<(), AllocError>
-        ensures ended { OnOk result ((nodes : List ReadNode) → Follows F.replayed F.keeps F.FOLLOWS_ALL nodes self.old → HasEnded F.keeps F.FOLLOWS_ALL nodes self.new.illegal self.new.kept.items) }
+        ensures ended { OnOk result ((nodes : List ReadNode) → FollowerKnows F.replayed F.keeps F.FOLLOWS_ALL nodes self.old → HasEnded F.keeps F.FOLLOWS_ALL nodes self.new.illegal self.new.kept.items) }
         ensures none { self.new.at_hand ≡ None }
     {
         let Some(node) = self.at_hand.take() else {
@@ -51,7 +51,7 @@ impl<K: Drop, F: FollowsNode<Kept = K>> Follower<F, K> {
     /// Begins a node whose first event is on this line.
     fn begin(&mut self, first_line: u64, shape: Shape) -> Result<(), AllocError>
         requires { IsShape shape }
-        ensures { OnOk result ((nodes : List ReadNode) → Follows F.replayed F.keeps F.FOLLOWS_ALL nodes self.old → Follows F.replayed F.keeps F.FOLLOWS_ALL (nodes ++ began first_line shape ∷ []) self.new) }
+        ensures { OnOk result ((nodes : List ReadNode) → FollowerKnows F.replayed F.keeps F.FOLLOWS_ALL nodes self.old → FollowerKnows F.replayed F.keeps F.FOLLOWS_ALL (nodes ++ began first_line shape ∷ []) self.new) }
     {
         self.end()?;
         if self.has_stopped() {
@@ -87,7 +87,7 @@ impl<K: Drop, F: FollowsNode<Kept = K>> Follower<F, K> {
     fn go_on(&mut self, node: F, event: &Event) -> Result<(), AllocError>
         requires none { self.old.at_hand ≡ None }
         requires room { HasRoomIn self.old.next_line (F.replayed node) }
-        ensures { OnOk result ((nodes : List ReadNode) → (told : Event) → FollowsWith F.keeps nodes (F.replayed node) self.old → event.now ≡ event_with (least_free (F.replayed node).shape (F.replayed node).history) told → Follows F.replayed F.keeps F.FOLLOWS_ALL (on_last (with_event told) nodes) self.new) }
+        ensures { OnOk result ((nodes : List ReadNode) → (reported : Event) → FollowsWith F.keeps nodes (F.replayed node) self.old → event.now ≡ event_with (least_free (F.replayed node).shape (F.replayed node).history) reported → FollowerKnows F.replayed F.keeps F.FOLLOWS_ALL (on_last (with_event reported) nodes) self.new) }
     {
         match node.follow(event) {
             Ok(node) => {
@@ -104,7 +104,7 @@ impl<K: Drop, F: FollowsNode<Kept = K>> Follower<F, K> {
     fn place(&mut self, node: F, caller: u32, page: PageId) -> Result<(), AllocError>
         requires none { self.old.at_hand ≡ None }
         requires room { HasRoomIn self.old.next_line (F.replayed node) }
-        ensures { OnOk result ((nodes : List ReadNode) → (told : Event) → (block : ℕ) → FollowsWith F.keeps nodes (F.replayed node) self.old → told ≡ record { caller = caller; what = Alloc page block } → Follows F.replayed F.keeps F.FOLLOWS_ALL (on_last (with_event told) nodes) self.new) }
+        ensures { OnOk result ((nodes : List ReadNode) → (reported : Event) → (block : ℕ) → FollowsWith F.keeps nodes (F.replayed node) self.old → reported ≡ record { caller = caller; what = Alloc page block } → FollowerKnows F.replayed F.keeps F.FOLLOWS_ALL (on_last (with_event reported) nodes) self.new) }
     {
         let block = node.free_block();
         let what = What::Alloc { page, block };
@@ -113,8 +113,8 @@ impl<K: Drop, F: FollowsNode<Kept = K>> Follower<F, K> {
 
     /// Replays an event on the last node, if there is one; an allocation uses the least free block.
     fn admit(&mut self, event: &Event) -> Result<(), AllocError>
-        requires { HasRoom F.replayed self.old }
-        ensures { OnOk result ((nodes : List ReadNode) → Follows F.replayed F.keeps F.FOLLOWS_ALL nodes self.old → Follows F.replayed F.keeps F.FOLLOWS_ALL (on_last (with_event event.now) nodes) self.new) }
+        requires { FollowerHasRoom F.replayed self.old }
+        ensures { OnOk result ((nodes : List ReadNode) → FollowerKnows F.replayed F.keeps F.FOLLOWS_ALL nodes self.old → FollowerKnows F.replayed F.keeps F.FOLLOWS_ALL (on_last (with_event event.now) nodes) self.new) }
     {
         let Some(node) = self.at_hand.take() else {
             return Ok(());
@@ -127,10 +127,10 @@ impl<K: Drop, F: FollowsNode<Kept = K>> Follower<F, K> {
 
     /// Processes the line of this number.
     fn follow(&mut self, number: u64, line: &Line) -> Result<(), AllocError>
-        requires room { HasRoom F.replayed self.old }
-        requires in_range { IsInRange line.now }
+        requires room { FollowerHasRoom F.replayed self.old }
+        requires in_range { IsLineInRange line.now }
         requires number { number ≤ max_counted }
-        ensures { OnOk result ((nodes : List ReadNode) → Follows F.replayed F.keeps F.FOLLOWS_ALL nodes self.old → Follows F.replayed F.keeps F.FOLLOWS_ALL (with_line number nodes line.now) self.new) }
+        ensures { OnOk result ((nodes : List ReadNode) → FollowerKnows F.replayed F.keeps F.FOLLOWS_ALL nodes self.old → FollowerKnows F.replayed F.keeps F.FOLLOWS_ALL (with_line number nodes line.now) self.new) }
     {
         match line {
             Line::Node { shape, .. } => self.begin(number + 1, *shape),
@@ -184,7 +184,7 @@ impl<K: Drop, F: FollowsNode<Kept = K>> FollowedNodes<F, K> {
 }
 
 impl<K: Drop, F: FollowsNode<Kept = K>> KeepsNodes for FollowedNodes<F, K> {
-    ghost told = { λ nodes. nodes_told nodes.lines };
+    ghost reported = { λ nodes. nodes_read nodes.lines };
 
     ghost goes_along = { λ number nodes. FollowsLines F.replayed F.keeps F.FOLLOWS_ALL number nodes };
 

@@ -1,6 +1,6 @@
 //! What follows a node while its events are legal, and what is kept of the node.
 ghost use Rattle.std.specs.Prelude.{◌≡◌, ◌<◌, ◌+◌, ◌^◌, [], Bool, true, false, Option, None, Some, length, IfOk, IfErr};
-ghost use Rattle.thp_check.specs.Prelude.{Explains, with_event, Replayed};
+ghost use Rattle.thp_check.specs.Prelude.{Explains, replayed_with, Replayed};
 ghost use Rattle.thp_journal_reader.specs.Keeping.{KeepsNothing, LeavesNothing};
 ghost use Rattle.thp_journal_reader.specs.declared.long_check.Illegal.{Illegal};
 ghost use Rattle.thp_history.specs.Prelude.{least_free, History, Fits, IsShape};
@@ -56,7 +56,7 @@ pub trait FollowsNode: Drop {
     /// Adds an event, if it fits the events so far.
     fn follow(self, event: &Event) -> Result<Self, Stopped<Self::Rest>>
         requires room { length (replayed self).history + 1 < 2 ^ 64 }
-        ensures followed { IfOk result (λ node. replayed node ≡ with_event (replayed self) event.now) }
+        ensures followed { IfOk result (λ node. replayed node ≡ replayed_with (replayed self) event.now) }
         ensures fits { IfOk result (λ node. Fits (replayed self).shape (replayed self).history event.now) }
         ensures misfit { IfErr result (λ stopped. Fits (replayed self).shape (replayed self).history event.now → ⊥) }
         ensures why { IfErr result (λ stopped. Explains (replayed self).shape (replayed self).history event.now stopped.misfit) }

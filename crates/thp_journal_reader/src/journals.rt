@@ -1,7 +1,7 @@
 //! Journals as values.
 ghost use Rattle.std.specs.Prelude.{◌≡◌, Ok, IfOk, IfErr, ◌≤◌, ◌+◌, ◌++◌, ◌∷◌, [], OnOk, IfSome};
 ghost use Rattle.thp_history.specs.Prelude.{by};
-ghost use Rattle.thp_journal_reader.specs.Prelude.{began, journals_of, nodes_in, on_last, reads_later, with_event, with_line, AreJournals, GoesAlong, IsInRange, IsReading};
+ghost use Rattle.thp_journal_reader.specs.Prelude.{began, journals_of, nodes_in, on_last, reads_later, with_event, with_line, AreJournals, BlocksGoAlong, IsLineInRange, IsReadingNodes};
 ghost use Rattle.thp_script.specs.Prelude.{ReportsFault, max_input};
 
 use crate::keeps_nodes::KeepsNodes;
@@ -62,8 +62,8 @@ pub(crate) struct OpenNode {
 impl OpenNode {
     /// Appends an event; an allocation gets the least free block.
     fn push(&mut self, caller: u32, what: What) -> Result<(), AllocError>
-        requires { GoesAlong self.old }
-        ensures along { OnOk result (GoesAlong self.new) }
+        requires { BlocksGoAlong self.old }
+        ensures along { OnOk result (BlocksGoAlong self.new) }
         ensures pushed { OnOk result (self.new.journal ≡ with_event (by caller what) self.old.journal) }
     {
         let event = self.blocks.place(Event { caller, what })?;
@@ -101,7 +101,7 @@ fn begin(
     requires blocks { 1 ≤ shape.blocks }
     requires room { number ≤ max_input }
     ensures nodes { OnOk result (nodes_in nodes.new ≡ nodes_in nodes.old ++ began (number + 1) shape ∷ []) }
-    ensures along { OnOk result (IfSome nodes.new (λ n. GoesAlong n.last)) }
+    ensures along { OnOk result (IfSome nodes.new (λ n. BlocksGoAlong n.last)) }
 {
     let blocks = LeastBlocks::new(alloc, shape)?;
     let journal = ReadNode {
@@ -117,9 +117,9 @@ fn begin(
 
 /// Appends an event to the last node, if there is one.
 fn push(nodes: &mut Option<Nodes>, event: Event) -> Result<(), AllocError>
-    requires { IfSome nodes.old (λ n. GoesAlong n.last) }
+    requires { IfSome nodes.old (λ n. BlocksGoAlong n.last) }
     ensures nodes { OnOk result (nodes_in nodes.new ≡ on_last (with_event event) (nodes_in nodes.old)) }
-    ensures along { OnOk result (IfSome nodes.new (λ n. GoesAlong n.last)) }
+    ensures along { OnOk result (IfSome nodes.new (λ n. BlocksGoAlong n.last)) }
 {
     if let Some(nodes) = nodes {
         nodes.last.push(event.caller, event.what)?;
@@ -128,9 +128,9 @@ fn push(nodes: &mut Option<Nodes>, event: Event) -> Result<(), AllocError>
 }
 
 impl KeepsNodes for Option<Nodes> {
-    ghost told = { λ nodes. nodes_in nodes };
+    ghost reported = { λ nodes. nodes_in nodes };
 
-    ghost goes_along = { λ number nodes. IsReading number nodes };
+    ghost goes_along = { λ number nodes. IsReadingNodes number nodes };
 
     ghost taken = { λ nodes. [] };
 

@@ -1,7 +1,7 @@
 //! What is stored about the nodes in the lines of a journal.
 ghost use Rattle.std.specs.Prelude.{◌≡◌, ◌≤◌, ◌+◌, ℕ, List, OnOk};
 ghost use Rattle.thp_journal_reader.specs.declared.journals.ReadNode.{ReadNode};
-ghost use Rattle.thp_journal_reader.specs.LineRanges.{IsInRange};
+ghost use Rattle.thp_journal_reader.specs.LineRanges.{IsLineInRange};
 ghost use Rattle.thp_journal_reader.specs.Reading.{with_line};
 
 use crate::line::Line;
@@ -10,7 +10,7 @@ use std::alloc::{AllocError, Global};
 /// The data that is stored about the nodes in the lines of a journal.
 pub trait KeepsNodes: Sized {
     /// The nodes so far.
-    ghost told: { Self → List ReadNode };
+    ghost reported: { Self → List ReadNode };
 
     /// The stored data agrees with the nodes, which are before the line of this number.
     ghost goes_along: { ℕ → Self → Type 0 };
@@ -24,9 +24,9 @@ pub trait KeepsNodes: Sized {
     /// Processes a line, which has this number.
     fn add(&mut self, alloc: Global, number: u64, line: &Line) -> Result<(), AllocError>
         requires along { goes_along number self.old }
-        requires in_range { IsInRange line.now }
+        requires in_range { IsLineInRange line.now }
         requires room { number ≤ last_line }
-        ensures nodes { OnOk result (told self.new ≡ with_line number (told self.old) line.now) }
+        ensures nodes { OnOk result (reported self.new ≡ with_line number (reported self.old) line.now) }
         ensures along { OnOk result (goes_along (number + 1) self.new) }
         ensures taken { OnOk result (taken self.new ≡ taken self.old) };
 

@@ -1,7 +1,7 @@
 //! The least free block for each allocation.
 ghost use Rattle.std.specs.Prelude.{◌≡◌, ◌<◌, ◌≤◌, Some, [], ◌∷◌, ◌++◌, IfOk, OnOk, OnErr};
 ghost use Rattle.thp_journal_reader.specs.Freeing.{freed_page, IsInside};
-ghost use Rattle.thp_journal_reader.specs.BlocksState.{with_event};
+ghost use Rattle.thp_journal_reader.specs.BlocksState.{blocks_with};
 ghost use Rattle.thp_history.specs.Prelude.{event_with, least_free};
 
 use crate::page_blocks::{BlockHolders, PageBlocks, PageRecord};
@@ -28,11 +28,11 @@ impl Model for LeastBlocks {
 
     ghost Value = { BlocksState };
 
-    ghost use Rattle.thp_journal_reader.specs.Prelude.{known_of, Keeps};
+    ghost use Rattle.thp_journal_reader.specs.Prelude.{known_of, KeepsBlocks};
 
     ghost view = { λ b. record { shape = b.shape; history = b.past } };
 
-    ghost invariant = { λ b. Keeps b.shape b.past b.holders (known_of b.pages.records) b.pages.allocations.items };
+    ghost invariant = { λ b. KeepsBlocks b.shape b.past b.holders (known_of b.pages.records) b.pages.allocations.items };
 }
 
 impl LeastBlocks {
@@ -84,7 +84,7 @@ impl LeastBlocks {
     // Adds the event; an allocation has a block of the node.
     fn note(&mut self, event: &Event) -> Result<(), AllocError>
         requires { IsInside self.old.shape.blocks event.now.what }
-        ensures noted { OnOk result (self.new ≡ with_event self.old event.now) }
+        ensures noted { OnOk result (self.new ≡ blocks_with self.old event.now) }
         ensures failed { OnErr result (self.new ≡ self.old) }
     {
         if let What::Alloc { page, block } = event.what {
@@ -101,7 +101,7 @@ impl LeastBlocks {
     fn note_alloc(&mut self, event: &Event, page: PageId, block: u32) -> Result<(), AllocError>
         requires is_so { event.now.what ≡ What.Alloc page block }
         requires inside { block < self.old.shape.blocks }
-        ensures noted { OnOk result (self.new ≡ with_event self.old event.now) }
+        ensures noted { OnOk result (self.new ≡ blocks_with self.old event.now) }
         ensures failed { OnErr result (self.new ≡ self.old) }
     {
         if let PageRecord::Holds { last } = self.pages.records.known(page) {
@@ -117,7 +117,7 @@ impl LeastBlocks {
     // Records that the event frees the page.
     fn note_freed(&mut self, event: &Event, page: PageId) -> Result<(), AllocError>
         requires frees { freed_page event.now.what ≡ Some page }
-        ensures noted { OnOk result (self.new ≡ with_event self.old event.now) }
+        ensures noted { OnOk result (self.new ≡ blocks_with self.old event.now) }
         ensures failed { OnErr result (self.new ≡ self.old) }
     {
         if let PageRecord::Holds { last } = self.pages.records.known(page) {

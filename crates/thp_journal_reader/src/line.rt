@@ -1,7 +1,7 @@
 //! Parses lines of a journal.
 ghost use Rattle.std.specs.Prelude.{◌≡◌, ◌≤◌, ◌<◌, ◌^◌, Ok, Err, IfOk, IfSome, MatchResult};
 ghost use Rattle.thp_history.specs.Prelude.{max_order, min_order};
-ghost use Rattle.thp_journal_reader.specs.Prelude.{before, by_words, line_in, line_of, may_stand, node_of, node_with, number_between, place_after, threshold_of, version_at, version_of, IsInRange};
+ghost use Rattle.thp_journal_reader.specs.Prelude.{before, line_by_words, line_in, line_of, line_may_stand, node_of, node_with, number_between, place_after, node_threshold_of, version_at, parsed_version, IsLineInRange};
 
 use crate::event_line::{event_of, small_number};
 use thp_history::{Event, Shape};
@@ -21,9 +21,9 @@ pub enum Line {
     End,
 }
 
-#[tactic(auto, unfolding(crate::specs::JournalLines::version_of))]
+#[tactic(auto, unfolding(crate::specs::JournalLines::parsed_version))]
 fn version_of(word: &[u8]) -> Result<Version, TextKind>
-    ensures { result ≡ version_of word.now }
+    ensures { result ≡ parsed_version word.now }
 {
     match word {
         b"1" => Ok(Version::Plain),
@@ -59,10 +59,10 @@ fn number_between(least: u32, most: u32, word: &[u8]) -> Result<u32, TextKind>
 }
 
 /// Parses a threshold for underused pages of this order, or `off`.
-#[tactic(auto, unfolding(crate::specs::JournalLines::threshold_of))]
+#[tactic(auto, unfolding(crate::specs::JournalLines::node_threshold_of))]
 fn threshold_of(order: u32, word: &[u8]) -> Result<Option<u32>, TextKind>
     requires { order ≤ max_order }
-    ensures value { result ≡ threshold_of order word.now }
+    ensures value { result ≡ node_threshold_of order word.now }
     ensures bound { IfOk result (λ threshold. IfSome threshold (λ t. t < 2 ^ order)) }
 {
     if word == b"off".as_slice() {
@@ -83,7 +83,7 @@ fn node_with(
     requires most { order ≤ max_order }
     requires threshold { IfSome underused (λ t. t < 2 ^ order) }
     ensures value { result ≡ node_with number.now blocks.now order underused }
-    ensures in_range { IfOk result IsInRange }
+    ensures in_range { IfOk result IsLineInRange }
 {
     let number = small_number(MAX_NODES as u32 - 1, number)?;
     let blocks = number_between(1, Shape::MAX_BLOCKS, blocks)?;
@@ -101,7 +101,7 @@ fn node_with(
 #[tactic(auto, unfolding(crate::specs::JournalLines::plain_node, crate::specs::JournalLines::ordered_node, crate::specs::JournalLines::underused_node))]
 fn node_of(version: Version, mut words: Words) -> Result<Line, TextKind>
     ensures value { result ≡ node_of version words.entry }
-    ensures in_range { IfOk result IsInRange }
+    ensures in_range { IfOk result IsLineInRange }
 {
     let number = before(b"blocks", &mut words)?;
     match version {
@@ -129,8 +129,8 @@ fn node_of(version: Version, mut words: Words) -> Result<Line, TextKind>
 /// Parses the words of a line.
 #[tactic(auto, unfolding(crate::specs::JournalLines::line_by, crate::specs::JournalLines::head_of))]
 fn by_words(version: Version, mut words: Words) -> Result<Line, TextKind>
-    ensures value { result ≡ by_words version words.entry }
-    ensures in_range { IfOk result IsInRange }
+    ensures value { result ≡ line_by_words version words.entry }
+    ensures in_range { IfOk result IsLineInRange }
 {
     let Some(name) = words.next() else {
         return Err(TextKind::BadWord);
@@ -154,7 +154,7 @@ fn by_words(version: Version, mut words: Words) -> Result<Line, TextKind>
 /// empty words, so its bytes are tested again only if they do not parse.
 pub(crate) fn line_of(version: Version, text: &[u8]) -> Result<Line, TextKind>
     ensures value { result ≡ line_of version text.now }
-    ensures in_range { IfOk result IsInRange }
+    ensures in_range { IfOk result IsLineInRange }
 {
     match by_words(version, Words::of_line(text)) {
         Ok(line) => Ok(line),
@@ -183,7 +183,7 @@ fn version_at(place: Place) -> Version
 }
 
 fn may_stand(place: Place, line: &Line) -> bool
-    ensures { result ≡ may_stand place line.now }
+    ensures { result ≡ line_may_stand place line.now }
 {
     match (place, line) {
         (Place::Start, Line::Head(_)) => true,
@@ -195,7 +195,7 @@ fn may_stand(place: Place, line: &Line) -> bool
 
 /// Returns the position after a line.
 pub(crate) fn place_after(place: Place, line: &Line) -> Place
-    requires { IsInRange line.now }
+    requires { IsLineInRange line.now }
     ensures { result ≡ place_after place line.now }
 {
     match (place, line) {
@@ -218,7 +218,7 @@ pub(crate) fn place_after(place: Place, line: &Line) -> Place
 #[tactic(auto, unfolding(crate::specs::JournalLines::line_in))]
 pub(crate) fn line_in(place: Place, text: &[u8]) -> Result<Line, TextKind>
     ensures value { result ≡ line_in place text.now }
-    ensures in_range { IfOk result IsInRange }
+    ensures in_range { IfOk result IsLineInRange }
 {
     let line = line_of(version_at(place), text)?;
     if !may_stand(place, &line) {

@@ -1,6 +1,6 @@
 //! The check of journals of any length.
 ghost use Rattle.std.specs.Prelude.{◌≡◌, ◌≢◌, ◌≤◌, ◌+◌, ◌++◌, Ok, Err, [], IfOk, IfErr, IfSome, All, None};
-ghost use Rattle.thp_journal_reader.specs.Prelude.{journals_of, journals_within, more_text_read, no_text_read, told_with, verdict_text, CanBeLegal, HasReadText, ReadJournals, ReportsFirst, ReportsIllegal};
+ghost use Rattle.thp_journal_reader.specs.Prelude.{journals_of, journals_within, more_text_read, no_text_read, result_with, verdict_text, CanBeLegal, HasReadText, ReadJournals, ReportsFirst, ReportsIllegal};
 ghost use Rattle.thp_script.specs.Prelude.{max_counted, max_input, nothing_of, ReportsFault, Text};
 ghost use Rattle.thp_script.specs.declared.fault.ReadFault.TheVariants.{OutOfMemory};
 
@@ -26,12 +26,12 @@ pub struct LongCheck {
 
 impl Model for LongCheck {
     ghost use Rattle.std.specs.Prelude.{◌≤◌, false};
-    ghost use Rattle.thp_journal_reader.specs.Prelude.{nodes_told, so_far, FollowsLines, KeepsNothing, ReadSoFar};
+    ghost use Rattle.thp_journal_reader.specs.Prelude.{nodes_read, so_far, FollowsLines, KeepsNothing, JournalReadSoFar};
     ghost use Rattle.thp_script.specs.Prelude.{max_counted};
 
-    ghost Value = { ReadSoFar };
+    ghost Value = { JournalReadSoFar };
 
-    ghost view = { λ c. so_far (nodes_told c.text.nodes.lines) c.text.place c.text.text };
+    ghost view = { λ c. so_far (nodes_read c.text.nodes.lines) c.text.place c.text.text };
 
     ghost invariant = { λ c. FollowsLines (λ replay. replay) KeepsNothing false c.text.text.line c.text.nodes × (c.text.text.most ≤ max_counted) };
 }
@@ -39,14 +39,14 @@ impl Model for LongCheck {
 impl LongCheck {
     /// Creates a check that has read nothing. The journals can have any length.
     pub fn new(alloc: Global) -> LongCheck
-        ensures { (text : Text) → told_with result text ≡ journals_within max_counted text }
+        ensures { (text : Text) → result_with result text ≡ journals_within max_counted text }
     {
         LongCheck::of(alloc, TextInParts::unlimited(alloc))
     }
 
     /// Creates a check of an input, which has at most 16 MiB.
     pub fn of_input(alloc: Global) -> LongCheck
-        ensures told { (text : Text) → told_with result text ≡ journals_of text }
+        ensures reported { (text : Text) → result_with result text ≡ journals_of text }
         ensures most { result.text.most ≡ max_input }
     {
         LongCheck::of(alloc, TextInParts::new(alloc))
@@ -56,7 +56,7 @@ impl LongCheck {
     fn of(alloc: Global, text: TextInParts) -> LongCheck
         requires nothing { text ≡ nothing_of text.most }
         requires counted { text.most ≤ max_counted }
-        ensures told { (more : Text) → told_with result more ≡ journals_within text.most more }
+        ensures reported { (more : Text) → result_with result more ≡ journals_within text.most more }
         ensures most { result.text.most ≡ text.most }
     {
         LongCheck {
@@ -67,7 +67,7 @@ impl LongCheck {
     /// Reads the next part of the text. After the first error, or after more bytes than allowed, the part is ignored. Fails if
     /// memory for a node's replay, or for a line that spans several parts, can't be allocated.
     pub fn read_part(self, part: &[u8]) -> Result<LongCheck, AllocError>
-        ensures text { IfOk result (λ check. (more : Text) → told_with check more ≡ told_with self (part.now ++ more)) }
+        ensures text { IfOk result (λ check. (more : Text) → result_with check more ≡ result_with self (part.now ++ more)) }
         ensures most { IfOk result (λ check. check.text.most ≡ self.text.most) }
     {
         let text = self.text.read_part(part)?;
@@ -78,8 +78,8 @@ impl LongCheck {
     /// node's events are legal. Fails with the first error of the text, even if that is after an illegal event. Allocates no
     /// memory.
     pub fn finish(self) -> Result<Option<Illegal>, TextFault>
-        ensures first { IfOk result (λ illegal. (journals : ReadJournals) × (told_with self [] ≡ Ok journals) × ReportsFirst journals.nodes illegal) }
-        ensures fault { IfErr result (λ fault. told_with self [] ≡ Err (fault.line, fault.kind)) }
+        ensures first { IfOk result (λ illegal. (journals : ReadJournals) × (result_with self [] ≡ Ok journals) × ReportsFirst journals.nodes illegal) }
+        ensures fault { IfErr result (λ fault. result_with self [] ≡ Err (fault.line, fault.kind)) }
         ensures illegal_line { IfOk result (λ illegal. IfSome illegal (λ i. i.line ≤ self.text.most + 1)) }
         ensures fault_line { IfErr result (λ fault. fault.line ≤ self.text.most + 1) }
     {
@@ -90,8 +90,8 @@ impl LongCheck {
     /// error of the text, even if that is after an illegal event. Allocates no memory.
     pub fn finish_input(self) -> Result<Option<u32>, ReadFault>
         requires { self.text.most ≡ max_input }
-        ensures line { IfOk result (λ line. (journals : ReadJournals) × (told_with self [] ≡ Ok journals) × ReportsIllegal journals.nodes line) }
-        ensures fault { IfErr result (ReportsFault (told_with self [])) }
+        ensures line { IfOk result (λ line. (journals : ReadJournals) × (result_with self [] ≡ Ok journals) × ReportsIllegal journals.nodes line) }
+        ensures fault { IfErr result (ReportsFault (result_with self [])) }
         ensures no_memory { IfErr result (λ fault. fault ≢ OutOfMemory) }
     {
         match self.finish() {

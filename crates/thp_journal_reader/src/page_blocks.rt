@@ -1,6 +1,6 @@
 //! The blocks of each page.
 ghost use Rattle.std.specs.Prelude.{◌≡◌, ◌<◌, ◌≤◌, ◌+◌, ◌^◌, ℕ, List, [], ◌∷◌, ◌++◌, cond, nat_eq, count_by, length, slice_index, Some, OnOk, OnErr, ◌-◌, slice_set, replicate, IfOk};
-ghost use Rattle.thp_journal_reader.specs.Prelude.{known_of, IsChain, IsCovered};
+ghost use Rattle.thp_journal_reader.specs.Prelude.{known_of, IsAllocationChain, IsCovered};
 ghost use Rattle.thp_live_pages.specs.Prelude.{least_of};
 
 use std::alloc::{AllocError, Global};
@@ -64,7 +64,7 @@ impl PageBlocks {
     // Frees the blocks of the allocations from `last` on.
     pub(crate) fn give_back(&self, last: Option<u32>, holders: &mut BlockHolders)
         requires { IsCovered self.now.allocations.items last holders.old }
-        ensures given { (bs : List ℕ) → IsChain self.now.allocations.items (length self.now.allocations.items) last bs → (b : ℕ) → slice_index holders.new b + count_by (nat_eq b) bs ≡ slice_index holders.old b }
+        ensures given { (bs : List ℕ) → IsAllocationChain self.now.allocations.items (length self.now.allocations.items) last bs → (b : ℕ) → slice_index holders.new b + count_by (nat_eq b) bs ≡ slice_index holders.old b }
         ensures size { length holders.new ≡ length holders.old }
     {
         let mut next = last;

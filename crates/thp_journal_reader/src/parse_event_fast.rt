@@ -1,7 +1,7 @@
 //! Fast parsing of events at the beginning of a text, in one pass over the bytes of their lines. Lines that it does not parse,
 //! such as a node's line, a close and errors, are left to `line`.
 ghost use Rattle.std.specs.Prelude.{◌≡◌, [], ◌∷◌, IfSome};
-ghost use Rattle.thp_journal_reader.specs.Prelude.{event_by, loss_event, unmap_event, FastEvent, FastLine, FastOperands, FastOutcome, FastSet};
+ghost use Rattle.thp_journal_reader.specs.Prelude.{event_by, loss_event, unmap_event, FastEvent, FastJournalLine, FastEventOperands, FastOutcome, FastSet};
 
 use crate::event_line::{EventWord, parse_word_fast};
 use crate::set_text::set_of_text;
@@ -27,7 +27,7 @@ fn parse_outcome_fast(text: &[u8]) -> Option<(Outcome, &[u8])>
 /// Returns the only word on the first line of a text, and the text after the line.
 #[inline(always)]
 fn last_word_fast(text: &[u8]) -> Option<(&[u8], &[u8])>
-    ensures { IfSome result (λ read. FastLine (read.0.now ∷ []) text.now read.1.now) }
+    ensures { IfSome result (λ read. FastJournalLine (read.0.now ∷ []) text.now read.1.now) }
 {
     let (line, rest) = cut_at(b'\n', text);
     let rest = rest?;
@@ -66,7 +66,7 @@ fn after_no_frame(text: &[u8]) -> Option<&[u8]>
 /// Parses the operands `PAGE OUTCOME SET`.
 #[inline(always)]
 fn parse_loss_event_fast(name: Loss, caller: u32, text: &[u8]) -> Option<(Event, &[u8])>
-    ensures { IfSome result (λ read. FastOperands (loss_event name) caller text.now read.0 read.1.now) }
+    ensures { IfSome result (λ read. FastEventOperands (loss_event name) caller text.now read.0 read.1.now) }
 {
     let (page, rest) = parse_number_fast(b' ', u64::MAX, text)?;
     let (outcome, rest) = parse_outcome_fast(rest)?;
@@ -79,7 +79,7 @@ fn parse_loss_event_fast(name: Loss, caller: u32, text: &[u8]) -> Option<(Event,
 /// Parses the operands `PAGE FIRST COUNT OUTCOME SET`.
 #[inline(always)]
 fn parse_unmap_event_fast(caller: u32, text: &[u8]) -> Option<(Event, &[u8])>
-    ensures { IfSome result (λ read. FastOperands unmap_event caller text.now read.0 read.1.now) }
+    ensures { IfSome result (λ read. FastEventOperands unmap_event caller text.now read.0 read.1.now) }
 {
     let (page, rest) = parse_number_fast(b' ', u64::MAX, text)?;
     let (first, rest) = parse_number_fast(b' ', u64::from(u16::MAX), rest)?;
@@ -100,7 +100,7 @@ fn parse_unmap_event_fast(caller: u32, text: &[u8]) -> Option<(Event, &[u8])>
 /// Parses the operands of an event, by its word. A close has none: its line is left to `line`.
 #[inline(always)]
 fn parse_operands_fast(word: EventWord, caller: u32, text: &[u8]) -> Option<(Event, &[u8])>
-    ensures { IfSome result (λ read. FastOperands (event_by word) caller text.now read.0 read.1.now) }
+    ensures { IfSome result (λ read. FastEventOperands (event_by word) caller text.now read.0 read.1.now) }
 {
     match word {
         EventWord::OfPage(name) => {

@@ -1,7 +1,7 @@
 //! Reads journals whose bytes arrive in parts, for any kind of data about their nodes.
 ghost use Rattle.std.specs.Prelude.{◌≡◌, ◌≤◌, ◌+◌, ◌++◌, Ok, Err, [], IfOk, IfErr, length};
-ghost use Rattle.thp_journal_reader.specs.Prelude.{fault_at, journals_in, lines_tell, so_far, told_with, Start};
-ghost use Rattle.thp_script.specs.Prelude.{fault_after, told_after, IsCounted, Text};
+ghost use Rattle.thp_journal_reader.specs.Prelude.{fault_at, journals_in, result_of_lines, so_far, result_with, Start};
+ghost use Rattle.thp_script.specs.Prelude.{fault_after, result_after, IsCounted, Text};
 
 use crate::keeps_nodes::KeepsNodes;
 use crate::line::{Line, Place, line_in, place_after};
@@ -34,7 +34,7 @@ fn add_fast<'p, N: KeepsNodes>(
     requires along { N.goes_along text.old.line nodes.old }
     requires limit { text.old.most ≤ N.last_line }
     requires counted { IsCounted part.now text.old }
-    ensures tells { IfOk result (λ rest. (more : Text) → told_after text.new more (lines_tell (N.told nodes.new) place text.new.line (text.new.begun ++ (rest.now ++ more))) ≡ told_after text.old more (lines_tell (N.told nodes.old) place text.old.line (text.old.begun ++ (part.now ++ more)))) }
+    ensures reports { IfOk result (λ rest. (more : Text) → result_after text.new more (result_of_lines (N.reported nodes.new) place text.new.line (text.new.begun ++ (rest.now ++ more))) ≡ result_after text.old more (result_of_lines (N.reported nodes.old) place text.old.line (text.old.begun ++ (part.now ++ more)))) }
     ensures along { IfOk result (λ _. N.goes_along text.new.line nodes.new) }
     ensures counted { IfOk result (λ rest. IsCounted rest.now text.new) }
     ensures most { IfOk result (λ _. text.new.most ≡ text.old.most) }
@@ -90,7 +90,7 @@ impl<N: KeepsNodes + Drop> TextReader<N> {
     pub fn read_part(self, part: &[u8]) -> Result<TextReader<N>, AllocError>
         requires along { N.goes_along self.text.line self.nodes }
         requires limit { self.text.most ≤ N.last_line }
-        ensures text { IfOk result (λ r. (more : Text) → told_with (so_far (N.told r.nodes) r.place r.text) more ≡ told_with (so_far (N.told self.nodes) self.place self.text) (part.now ++ more)) }
+        ensures text { IfOk result (λ r. (more : Text) → result_with (so_far (N.reported r.nodes) r.place r.text) more ≡ result_with (so_far (N.reported self.nodes) self.place self.text) (part.now ++ more)) }
         ensures along { IfOk result (λ r. N.goes_along r.text.line r.nodes) }
         ensures limit { IfOk result (λ r. r.text.most ≡ self.text.most) }
         ensures taken { IfOk result (λ r. N.taken r.nodes ≡ N.taken self.nodes) }
@@ -129,8 +129,8 @@ impl<N: KeepsNodes + Drop> TextReader<N> {
     /// Returns the data about the nodes of the whole text. Fails with the first error of the text.
     pub fn finish(self) -> Result<N, TextFault>
         ensures nodes { IfOk result (λ nodes. nodes ≡ self.nodes) }
-        ensures told { IfOk result (λ nodes. told_with (so_far (N.told self.nodes) self.place self.text) [] ≡ Ok (journals_in (N.told self.nodes))) }
-        ensures fault { IfErr result (λ fault. told_with (so_far (N.told self.nodes) self.place self.text) [] ≡ Err (fault.line, fault.kind)) }
+        ensures reported { IfOk result (λ nodes. result_with (so_far (N.reported self.nodes) self.place self.text) [] ≡ Ok (journals_in (N.reported self.nodes))) }
+        ensures fault { IfErr result (λ fault. result_with (so_far (N.reported self.nodes) self.place self.text) [] ≡ Err (fault.line, fault.kind)) }
         ensures fault_line { IfErr result (λ fault. fault.line ≤ self.text.most + 1) }
         ensures last_line { self.text.line ≤ self.text.most + 1 }
     {

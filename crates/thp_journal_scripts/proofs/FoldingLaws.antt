@@ -7,7 +7,7 @@ use Rattle.thp_history.specs.declared.events.What.TheVariants as what
 use Rattle.thp_history.specs.Prelude.{with_block, History}
 use Rattle.thp_script.specs.declared.script.Op.{Op}
 use Rattle.thp_script.specs.declared.script.Op.TheVariants as op
-use Rattle.thp_journal_scripts.specs.Prelude.{EventKind, Call, Take, Try, Put, Folding, ScriptBatch, Idle, Taking, Open, Closing, pending_ops, settled, Completes, PutsMore, TakesMore, TriesMore, nothing_moved, AddsCommands, AddsEvent, AddsPlain, AddsTo, Ends, HasAdded, IsAtPlace, IsFoldedTo, Moved, call_in, kind_of, IsBy, counted, scan_place, scan_place_after, Between, Elsewhere, InPuts, InTakes, InTries, IsCallOrScan, ScanPlace}
+use Rattle.thp_journal_scripts.specs.Prelude.{EventKind, Call, Take, Try, Put, Folding, ScriptBatch, Idle, Taking, Open, Closing, pending_ops, settled, Completes, PutsMore, TakesMore, TriesMore, nothing_moved, AddsCommands, AddsEvent, AddsPlain, AddsTo, FoldEnds, HasAdded, IsAtPlace, IsFoldedTo, Moved, call_in, kind_of, IsBy, capped_count, scan_place, scan_place_after, Between, Elsewhere, InPuts, InTakes, InTries, IsCallOrScan, ScanPlace}
 use Rattle.thp_journal_scripts.proofs.WholeScanLaws.{place_more, scans_more, stays_elsewhere}
 use Rattle.thp_journal_scripts.proofs.ScriptBatchLaws.{completes, first_take, is_script, one_more_call, one_more_put, one_more_take, one_more_try, open_put, open_try, puts_nothing, scans, settles, waits}
 
@@ -147,7 +147,7 @@ module _ (o : List Op) (a b : Folding) (e : Event) where
   -- an event after the commands so far
   module _ (p : List Op) (m : Folding) (so_far : HasAdded o p (AddsCommands a m)) where
     -- it is not at its place
-    pub adds_waiting : (c : ℕ) (kind : EventKind) → call_in kind ≡ [] → IsBy c kind e → b.batch ≡ m.batch → b.moved.events ≡ counted (m.moved.events + 1) → HasAdded o p (AddsEvent e a b)
+    pub adds_waiting : (c : ℕ) (kind : EventKind) → call_in kind ≡ [] → IsBy c kind e → b.batch ≡ m.batch → b.moved.events ≡ capped_count (m.moved.events + 1) → HasAdded o p (AddsEvent e a b)
     adds_waiting c kind none is batch some = (
       so_far.0,
       so_far.1,
@@ -217,7 +217,7 @@ folded_more o p e a b adds goes plain = (
       },
 )
 
-pub finishes : (o p : List Op) (a b : Folding) (moved : Moved) → HasAdded o p (AddsCommands a b) → b.batch ≡ Idle → moved.events ≡ b.moved.events → (IsAtPlace Between a → moved ≡ nothing_moved) → (IsAtPlace Between a → p ≡ o) → HasAdded o p (Ends a moved)
+pub finishes : (o p : List Op) (a b : Folding) (moved : Moved) → HasAdded o p (AddsCommands a b) → b.batch ≡ Idle → moved.events ≡ b.moved.events → (IsAtPlace Between a → moved ≡ nothing_moved) → (IsAtPlace Between a → p ≡ o) → HasAdded o p (FoldEnds a moved)
 finishes o p a b moved adds idle same none still = (
   adds.0,
   adds.1,

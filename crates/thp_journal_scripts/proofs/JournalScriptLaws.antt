@@ -7,7 +7,7 @@ use Rattle.thp_history.specs.declared.shape.Shape.{Shape}
 use Rattle.thp_history.specs.Prelude.{event_with, least_free, History, IsFirstMisfit}
 use Rattle.thp_history.proofs.ListPlaces.{get_middle, get_push}
 use Rattle.thp_journal_reader.specs.declared.long_check.Illegal.{Illegal}
-use Rattle.thp_journal_scripts.specs.Prelude.{JournalScript, ended_nodes, repeated_of, told_of, AddsLine, IsLegalPart, IsScripting, IsScriptOf, moved_by, nodes_of, out_of_turn_by, taken_of, untaken, BeginsNode, EndedNode, EndsAs, EndsNode, GoesOnWith, IsWriting, NodeScript}
+use Rattle.thp_journal_scripts.specs.Prelude.{JournalScript, ended_nodes, repeated_of, shape_and_events, AddsLine, IsLegalPart, IsScripting, IsScriptOf, moved_by, node_scripts, out_of_turn_by, taken_of, untaken, BeginsNode, EndedNode, EndsAs, EndsNode, GoesOnWith, IsWriting, NodeScript}
 use Rattle.thp_journal_reader.specs.declared.journals.ReadNode.{ReadNode}
 use Rattle.thp_journal_reader.specs.declared.line.Line.{Line}
 use Rattle.thp_journal_reader.specs.declared.line.Line.TheVariants.{Head, Node, Happened, End}
@@ -74,7 +74,7 @@ module _ (nodes before : List ReadNode) (last : ReadNode) (are : nodes ≡ befor
   last_events : (k : ℕ) → IsFirstMisfit last.shape (with_event e last).events k → take k (with_event e last).events ≡ last.events
   last_events k misfit = grind (arith, slice_get_within, last_stands, get_push, take-append-le, take_at)
 
-  last_is_illegal : (illegal : Illegal) → IsFirstIllegalEvent (on_last (with_event e) nodes) illegal → (part : List ReadNode) × IsLegalPart (on_last (with_event e) nodes) part × (map told_of part ≡ map told_of nodes)
+  last_is_illegal : (illegal : Illegal) → IsFirstIllegalEvent (on_last (with_event e) nodes) illegal → (part : List ReadNode) × IsLegalPart (on_last (with_event e) nodes) part × (map shape_and_events part ≡ map shape_and_events nodes)
   last_is_illegal illegal i =
       elim (stands nodes before last are e i.line.place i.line.node i.line.here) [
         | inl w ↦ absurd (misfit_is_illegal i.line.node.shape i.line.node.events i.line.first.place i.line.first.misfit (before_legal nodes before last are e all i.line.place i.line.node w.1))
@@ -93,7 +93,7 @@ module _ (nodes before : List ReadNode) (last : ReadNode) (are : nodes ≡ befor
                 misfit = misfit;
                 part_is = refl;
               },
-              map-append told_of before (end ∷ []) ∙ ap (λ (h : History). map told_of before ++ (last.shape, h) ∷ []) (last_events k misfit) ∙ sym (map-append told_of before (last ∷ [])) ∙ ap (map told_of) (sym are),
+              map-append shape_and_events before (end ∷ []) ∙ ap (λ (h : History). map shape_and_events before ++ (last.shape, h) ∷ []) (last_events k misfit) ∙ sym (map-append shape_and_events before (last ∷ [])) ∙ ap (map shape_and_events) (sym are),
             )
       ]
 
@@ -103,7 +103,7 @@ none_illegal nodes all illegal i = grind (arith, misfit_is_illegal, slice_get_wi
 
 -- the first illegal event is on this line
 found_now : (number : ℕ) (line : Line) (nodes : List ReadNode) → ReportsFirst nodes None → (illegal : Illegal) → IsFirstIllegalEvent (with_line number nodes line) illegal →
-    (part : List ReadNode) × IsLegalPart (with_line number nodes line) part × (map told_of part ≡ map told_of nodes)
+    (part : List ReadNode) × IsLegalPart (with_line number nodes line) part × (map shape_and_events part ≡ map shape_and_events nodes)
 found_now number (Head version) nodes all illegal i = absurd (none_illegal nodes all illegal i)
 found_now number (Node n shape) nodes all illegal i = absurd (none_illegal (nodes ++ began (number + 1) shape ∷ []) (first_begins nodes None (number + 1) shape all) illegal i)
 found_now number (Happened e) [] all illegal i = absurd (none_illegal [] first_none illegal i)
@@ -113,7 +113,7 @@ found_now number End nodes all illegal i = absurd (none_illegal nodes all illega
 -- ---- the script
 
 -- the nodes with a script, once the last of them has ended
-same_ended : (ended : List EndedNode) (begun : Option NodeScript) (after : List EndedNode) → EndsAs ended begun after → map repeated_of (nodes_of after None) ≡ map repeated_of (nodes_of ended begun)
+same_ended : (ended : List EndedNode) (begun : Option NodeScript) (after : List EndedNode) → EndsAs ended begun after → map repeated_of (node_scripts after None) ≡ map repeated_of (node_scripts ended begun)
 same_ended ended x after is = grind (arith, map-append)
 
 -- it ends at the illegal event, or has
@@ -127,7 +127,7 @@ stops number line nodes old new None illegal all first ends s =
       legal = found.1;
       ended = e.0;
       begun = None;
-      same = found.2 ∙ ap (map told_of) (sym s.legal) ∙ s.same ∙ sym (same_ended s.ended s.begun e.0 e.1);
+      same = found.2 ∙ ap (map shape_and_events) (sym s.legal) ∙ s.same ∙ sym (same_ended s.ended s.begun e.0 e.1);
       goes_on = λ none. absurd (cc);
       writing = e.2;
     }
@@ -171,7 +171,7 @@ module _ (number : ℕ) (nodes : List ReadNode) (old new : JournalScript) (s : I
         legal = refl;
         ended = e.0;
         begun = Some first;
-        same = map-append told_of nodes (began (number + 1) shape ∷ []) ∙ ap (λ l. l ++ (shape, []) ∷ []) (ap (map told_of) (sym s.legal) ∙ s.same ∙ sym (same_ended s.ended s.begun e.0 e.1))
+        same = map-append shape_and_events nodes (began (number + 1) shape ∷ []) ∙ ap (λ l. l ++ (shape, []) ∷ []) (ap (map shape_and_events) (sym s.legal) ∙ s.same ∙ sym (same_ended s.ended s.begun e.0 e.1))
             ∙ sym (map-append repeated_of (ended_nodes e.0) (first ∷ []));
         goes_on = λ none ended. absurd (cc);
         writing = e.2;
@@ -184,14 +184,14 @@ module _ (number : ℕ) (nodes : List ReadNode) (old new : JournalScript) (s : I
         let block : ℕ = least_free last.shape last.events in
         let a = adds block s.ended (Some n) (subst (λ b. IsWriting s.ended b old) begun s.writing) in
         let m : NodeScript = record { shape = n.shape; events = n.events ++ event_with block e ∷ []; ops = n.ops ++ a.1.0 } in
-        let both = same_front (map told_of before) (map repeated_of (ended_nodes s.ended)) (told_of last) (repeated_of n)
-        (sym (map-append told_of before (last ∷ [])) ∙ ap (map told_of) (sym are ∙ sym s.legal) ∙ s.same ∙ ap (λ b. map repeated_of (nodes_of s.ended b)) begun ∙ map-append repeated_of (ended_nodes s.ended) (n ∷ [])) in
+        let both = same_front (map shape_and_events before) (map repeated_of (ended_nodes s.ended)) (shape_and_events last) (repeated_of n)
+        (sym (map-append shape_and_events before (last ∷ [])) ∙ ap (map shape_and_events) (sym are ∙ sym s.legal) ∙ s.same ∙ ap (λ b. map repeated_of (node_scripts s.ended b)) begun ∙ map-append repeated_of (ended_nodes s.ended) (n ∷ [])) in
         record {
           part = on_last (with_event e) nodes;
           legal = refl;
           ended = s.ended;
           begun = Some m;
-          same = ap (λ ns. map told_of (on_last (with_event e) ns)) are ∙ ap (map told_of) (on_last-push (with_event e) before last) ∙ map-append told_of before (with_event e last ∷ [])
+          same = ap (λ ns. map shape_and_events (on_last (with_event e) ns)) are ∙ ap (map shape_and_events) (on_last-push (with_event e) before last) ∙ map-append shape_and_events before (with_event e last ∷ [])
               ∙ ap₂ (λ l (p : Shape × History). l ++ (p.0, p.1 ++ event_with block e ∷ []) ∷ []) both.0 both.1 ∙ sym (map-append repeated_of (ended_nodes s.ended) (m ∷ []));
           goes_on = λ none ended. absurd (cc);
           writing = subst (λ b. IsWriting s.ended b new) a.1.1 a.2;
@@ -205,7 +205,7 @@ module _ (number : ℕ) (nodes : List ReadNode) (old new : JournalScript) (s : I
           legal = refl;
           ended = s.ended;
           begun = None;
-          same = ap (λ ns. map told_of (on_last (with_event e) ns)) none ∙ ap (λ es. map repeated_of (ended_nodes es)) (sym ended);
+          same = ap (λ ns. map shape_and_events (on_last (with_event e) ns)) none ∙ ap (λ es. map repeated_of (ended_nodes es)) (sym ended);
           goes_on = λ some is. ended;
           writing = subst (λ b. IsWriting s.ended b new) a.1 a.2;
         }
@@ -213,10 +213,10 @@ module _ (number : ℕ) (nodes : List ReadNode) (old new : JournalScript) (s : I
     by_begun : (begun : Option NodeScript) → s.begun ≡ begun → (ns : List ReadNode) → nodes ≡ ns → IsScripting (on_last (with_event e) nodes) None new
     by_begun None is [] are = no_node are is (s.goes_on refl is)
     by_begun None is (x ∷ xs) are =
-        let told : map told_of (x ∷ xs) ≡ [] = ap (map told_of) (sym are ∙ sym s.legal) ∙ s.same ∙ ap₂ (λ b es. map repeated_of (nodes_of es b)) is (s.goes_on refl is) in
+        let reported : map shape_and_events (x ∷ xs) ≡ [] = ap (map shape_and_events) (sym are ∙ sym s.legal) ∙ s.same ∙ ap₂ (λ b es. map repeated_of (node_scripts es b)) is (s.goes_on refl is) in
         absurd (cc)
     by_begun (Some n) is [] are =
-        absurd (not_empty (map repeated_of (ended_nodes s.ended)) (repeated_of n) (ap (map told_of) (sym are ∙ sym s.legal) ∙ s.same ∙ ap (λ b. map repeated_of (nodes_of s.ended b)) is ∙ map-append repeated_of (ended_nodes s.ended) (n ∷ [])))
+        absurd (not_empty (map repeated_of (ended_nodes s.ended)) (repeated_of n) (ap (map shape_and_events) (sym are ∙ sym s.legal) ∙ s.same ∙ ap (λ b. map repeated_of (node_scripts s.ended b)) is ∙ map-append repeated_of (ended_nodes s.ended) (n ∷ [])))
     by_begun (Some n) is (x ∷ xs) are = let l = some_last x xs in of_last l.0 l.1 (are ∙ l.2) n is
 
     goes_on : IsScripting (on_last (with_event e) nodes) None new
@@ -231,8 +231,8 @@ grows number (Node n shape) nodes old new None all begins s = node_begins number
 grows number (Happened e) nodes old new None all adds s = goes_on number nodes old new s e adds
 grows number End nodes old new None all same s = subst (IsScripting nodes None) (sym same) s
 
--- the same, of nodes that lines tell
-module _ (number : ℕ) (line : Line) (nodes more : List ReadNode) (told : more ≡ with_line number nodes line) (old new : JournalScript) (was now : Option Illegal) (first : ReportsFirst more now) (s : IsScripting nodes was old) where
+-- the same, of nodes that lines report
+module _ (number : ℕ) (line : Line) (nodes more : List ReadNode) (reported : more ≡ with_line number nodes line) (old new : JournalScript) (was now : Option Illegal) (first : ReportsFirst more now) (s : IsScripting nodes was old) where
   pub stops_now : ReportsFirst nodes was → (is_some now ≡ true) → EndsNode old new → IsScripting more now new
   stops_now before some ends = grind (arith, is_some, stops)
 

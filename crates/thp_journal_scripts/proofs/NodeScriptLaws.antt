@@ -8,7 +8,7 @@ use Rattle.thp_history.specs.declared.events.Event.{Event}
 use Rattle.thp_history.specs.declared.shape.Shape.{Shape}
 use Rattle.thp_history.specs.Prelude.{History}
 use Rattle.thp_script.specs.declared.script.Op.{Op}
-use Rattle.thp_journal_scripts.specs.Prelude.{Folding, JournalScript, Moved, nothing_moved, AddsTo, Ends, HasAdded, IsFolded, both_moved, counted, head_text, node_after, node_text, nodes_text, out_of_turn_by, out_of_turn_in, shape_of, BeginsNode, EndedNode, EndsAs, EndsNode, GoesOnAs, GoesOnWith, IsBegun, IsEnded, IsWriting, NodeScript, command_line, commands_text, is_out_of_turn, turns_after, turns_of, untried_after, TurnsSoFar, UntriedPage}
+use Rattle.thp_journal_scripts.specs.Prelude.{Folding, JournalScript, Moved, nothing_moved, AddsTo, FoldEnds, HasAdded, IsFolded, both_moved, capped_count, head_text, node_after, node_script_text, nodes_text, out_of_turn_by, out_of_turn_in, script_shape, BeginsNode, EndedNode, EndsAs, EndsNode, GoesOnAs, GoesOnWith, IsBegun, IsEnded, IsWriting, NodeScript, command_line, commands_text, is_out_of_turn, turns_after, turns_of, untried_after, TurnsSoFar, UntriedPage}
 
 -- ---- texts
 
@@ -23,35 +23,35 @@ pub line_appended : (n i : ℕ) (ops : List Op) (d : Op) (first text new : List 
 line_appended n i ops d first text new below so_far line = grind (arith, get_or, append_assoc, one_more_command)
 
 -- the lines of more commands of a node
-more_text : (before : List Shape) (n : NodeScript) (later : History) (ops : List Op) → node_text before (record { shape = n.shape; events = later; ops = n.ops ++ ops }) ≡ node_text before n ++ commands_text (node_after before) ops
+more_text : (before : List Shape) (n : NodeScript) (later : History) (ops : List Op) → node_script_text before (record { shape = n.shape; events = later; ops = n.ops ++ ops }) ≡ node_script_text before n ++ commands_text (node_after before) ops
 more_text before n later ops = grind (arith, flat_map-append, append_assoc)
 
 -- the text of one more node
-one_more_node : (before : List Shape) (nodes : List NodeScript) (n : NodeScript) → nodes_text before (nodes ++ n ∷ []) ≡ nodes_text before nodes ++ node_text (before ++ map shape_of nodes) n
-one_more_node before [] n = append-nil (node_text before n) ∙ ap (λ b. node_text b n) (sym (append-nil before))
+one_more_node : (before : List Shape) (nodes : List NodeScript) (n : NodeScript) → nodes_text before (nodes ++ n ∷ []) ≡ nodes_text before nodes ++ node_script_text (before ++ map script_shape nodes) n
+one_more_node before [] n = append-nil (node_script_text before n) ∙ ap (λ b. node_script_text b n) (sym (append-nil before))
 one_more_node before (m ∷ nodes) n =
-    ap (λ t. node_text before m ++ t) (one_more_node (before ++ m.shape ∷ []) nodes n)
-    ∙ sym (append_assoc (node_text before m) (nodes_text (before ++ m.shape ∷ []) nodes) (node_text ((before ++ m.shape ∷ []) ++ map shape_of nodes) n))
-    ∙ ap (λ b. (node_text before m ++ nodes_text (before ++ m.shape ∷ []) nodes) ++ node_text b n) (append_assoc before (m.shape ∷ []) (map shape_of nodes))
+    ap (λ t. node_script_text before m ++ t) (one_more_node (before ++ m.shape ∷ []) nodes n)
+    ∙ sym (append_assoc (node_script_text before m) (nodes_text (before ++ m.shape ∷ []) nodes) (node_script_text ((before ++ m.shape ∷ []) ++ map script_shape nodes) n))
+    ∙ ap (λ b. (node_script_text before m ++ nodes_text (before ++ m.shape ∷ []) nodes) ++ node_script_text b n) (append_assoc before (m.shape ∷ []) (map script_shape nodes))
 
 -- the text of the last node's further commands
-more_of_last : (nodes : List NodeScript) (n : NodeScript) (later : History) (ops : List Op) → nodes_text [] (nodes ++ record { shape = n.shape; events = later; ops = n.ops ++ ops } ∷ []) ≡ nodes_text [] (nodes ++ n ∷ []) ++ commands_text (node_after (map shape_of nodes)) ops
+more_of_last : (nodes : List NodeScript) (n : NodeScript) (later : History) (ops : List Op) → nodes_text [] (nodes ++ record { shape = n.shape; events = later; ops = n.ops ++ ops } ∷ []) ≡ nodes_text [] (nodes ++ n ∷ []) ++ commands_text (node_after (map script_shape nodes)) ops
 more_of_last nodes n later ops =
-    one_more_node [] nodes (record { shape = n.shape; events = later; ops = n.ops ++ ops }) ∙ ap (λ t. nodes_text [] nodes ++ t) (more_text (map shape_of nodes) n later ops)
-    ∙ sym (append_assoc (nodes_text [] nodes) (node_text (map shape_of nodes) n) (commands_text (node_after (map shape_of nodes)) ops))
-    ∙ ap (λ t. t ++ commands_text (node_after (map shape_of nodes)) ops) (sym (one_more_node [] nodes n))
+    one_more_node [] nodes (record { shape = n.shape; events = later; ops = n.ops ++ ops }) ∙ ap (λ t. nodes_text [] nodes ++ t) (more_text (map script_shape nodes) n later ops)
+    ∙ sym (append_assoc (nodes_text [] nodes) (node_script_text (map script_shape nodes) n) (commands_text (node_after (map script_shape nodes)) ops))
+    ∙ ap (λ t. t ++ commands_text (node_after (map script_shape nodes)) ops) (sym (one_more_node [] nodes n))
 
 -- ---- numbers of nodes
 
-one_more_shape : (nodes : List NodeScript) (n : NodeScript) → length (map shape_of (nodes ++ n ∷ [])) ≡ length (map shape_of nodes) + 1
-one_more_shape nodes n = ap length (map-append shape_of nodes (n ∷ [])) ∙ length-append (map shape_of nodes) (n.shape ∷ [])
+one_more_shape : (nodes : List NodeScript) (n : NodeScript) → length (map script_shape (nodes ++ n ∷ [])) ≡ length (map script_shape nodes) + 1
+one_more_shape nodes n = ap length (map-append script_shape nodes (n ∷ [])) ∙ length-append (map script_shape nodes) (n.shape ∷ [])
 
 last_number : (count length : ℕ) → count ≡ min (length + 1) (2 ^ 32 - 1) → count - 1 ≡ min length (2 ^ 32 - 2)
 last_number count length is = omega (arith, is)
 
 -- the number of the last node
-number_of_last : (nodes : List NodeScript) (n : NodeScript) (shapes : List Shape) (count : ℕ) → shapes ≡ map shape_of (nodes ++ n ∷ []) → count ≡ min (length shapes) (2 ^ 32 - 1) → count - 1 ≡ node_after (map shape_of nodes)
-number_of_last nodes n shapes count are is = last_number count (length (map shape_of nodes)) (is ∙ ap (λ k. min k (2 ^ 32 - 1)) (ap length are ∙ one_more_shape nodes n))
+number_of_last : (nodes : List NodeScript) (n : NodeScript) (shapes : List Shape) (count : ℕ) → shapes ≡ map script_shape (nodes ++ n ∷ []) → count ≡ min (length shapes) (2 ^ 32 - 1) → count - 1 ≡ node_after (map script_shape nodes)
+number_of_last nodes n shapes count are is = last_number count (length (map script_shape nodes)) (is ∙ ap (λ k. min k (2 ^ 32 - 1)) (ap length are ∙ one_more_shape nodes n))
 
 -- ---- turns
 
@@ -62,7 +62,7 @@ more_out_of_turn pages e = if is_out_of_turn pages e then 1 else 0
 one_more_turn : (h : History) (e : Event) → turns_of (h ++ e ∷ []) ≡ turns_after (turns_of h) e
 one_more_turn h e = fold_push turns_after (record { untried = []; count = 0 }) h e
 
-more_counted : (old new all k : ℕ) → old ≡ counted all → new ≡ counted (old + k) → new ≡ counted (all + k)
+more_counted : (old new all k : ℕ) → old ≡ capped_count all → new ≡ capped_count (old + k) → new ≡ capped_count (all + k)
 more_counted old new all k is more = omega (arith, is, more)
 
 -- the nodes' count with one more event of the last one
@@ -90,13 +90,13 @@ more_written taken taken' text text' all more same longer is = ap₂ (λ t u. t 
 module _ (old new : JournalScript) (f : Folding) (p : List Op) (held : old.node ≡ Some f) (text : new.text.items ≡ old.text.items ++ commands_text (old.nodes - 1) p) (taken : new.taken ≡ old.taken) (nodes : new.nodes ≡ old.nodes) (shapes : new.shapes ≡ old.shapes) (none : new.ops.items ≡ []) where
   -- an event of the node that has begun
   pub goes_on : (e : Event) (g : Folding) → new.node ≡ Some g → new.moved ≡ old.moved → new.turns.untried.items ≡ untried_after old.turns.untried.items e →
-      new.turns.out_of_turn ≡ counted (old.turns.out_of_turn + more_out_of_turn old.turns.untried.items e) → HasAdded old.ops.items p (AddsTo e f g) → GoesOnWith e old new
+      new.turns.out_of_turn ≡ capped_count (old.turns.out_of_turn + more_out_of_turn old.turns.untried.items e) → HasAdded old.ops.items p (AddsTo e f g) → GoesOnWith e old new
   goes_on e g begun moved untried count added = λ ended now w. by_node ended now w (subst (λ x. IsBegun now x) held w.begun_is) where
     by_node : (ended : List EndedNode) (now : Option NodeScript) → IsWriting ended now old → IsBegun now (Some f) → (after : Option NodeScript) × GoesOnAs e now after × IsWriting ended after new
     by_node ended None w is = absurd is
     by_node ended (Some n) w is =
         let all : p ≡ added.0 = added.1 ∙ ap (λ os. os ++ added.0) w.none_left in
-        let number : old.nodes - 1 ≡ node_after (map shape_of (ended_nodes ended)) = number_of_last (ended_nodes ended) n old.shapes.items old.nodes w.shapes_are w.count in
+        let number : old.nodes - 1 ≡ node_after (map script_shape (ended_nodes ended)) = number_of_last (ended_nodes ended) n old.shapes.items old.nodes w.shapes_are w.count in
         let m : NodeScript = record { shape = n.shape; events = n.events ++ e ∷ []; ops = n.ops ++ added.0 } in (
           Some m,
           (added.0, refl),
@@ -110,22 +110,22 @@ module _ (old new : JournalScript) (f : Folding) (p : List Op) (held : old.node 
             untried_are = untried ∙ ap (λ pages. untried_after pages e) w.untried_are ∙ ap (λ (t : TurnsSoFar). t.untried) (sym (one_more_turn n.events e));
             out_of_turn_is =
                 more_counted (out_of_turn_by old) (out_of_turn_by new) (out_of_turn_in (ended_nodes ended ++ n ∷ [])) (more_out_of_turn (turns_of n.events).untried e) w.out_of_turn_is
-                (count ∙ ap (λ pages. counted (old.turns.out_of_turn + more_out_of_turn pages e)) w.untried_are)
-                ∙ ap counted (sym (more_turns (ended_nodes ended) n e m refl));
-            shapes_are = ap (λ v. v.items) shapes ∙ w.shapes_are ∙ map-append shape_of (ended_nodes ended) (n ∷ []) ∙ sym (map-append shape_of (ended_nodes ended) (m ∷ []));
+                (count ∙ ap (λ pages. capped_count (old.turns.out_of_turn + more_out_of_turn pages e)) w.untried_are)
+                ∙ ap capped_count (sym (more_turns (ended_nodes ended) n e m refl));
+            shapes_are = ap (λ v. v.items) shapes ∙ w.shapes_are ∙ map-append script_shape (ended_nodes ended) (n ∷ []) ∙ sym (map-append script_shape (ended_nodes ended) (m ∷ []));
             count = nodes ∙ w.count ∙ ap (λ v. min (length v.items) (2 ^ 32 - 1)) (sym shapes);
             none_left = none;
           },
         )
 
   -- its end
-  pub ends : (moved : Moved) → new.node ≡ None → new.moved ≡ both_moved old.moved moved → new.turns ≡ old.turns → HasAdded old.ops.items p (Ends f moved) → EndsNode old new
+  pub ends : (moved : Moved) → new.node ≡ None → new.moved ≡ both_moved old.moved moved → new.turns ≡ old.turns → HasAdded old.ops.items p (FoldEnds f moved) → EndsNode old new
   ends moved begun sums turns added = λ ended now w. by_node ended now w (subst (λ x. IsBegun now x) held w.begun_is) where
     by_node : (ended : List EndedNode) (now : Option NodeScript) → IsWriting ended now old → IsBegun now (Some f) → (after : List EndedNode) × EndsAs ended now after × IsWriting after None new
     by_node ended None w is = absurd is
     by_node ended (Some n) w is =
         let all : p ≡ added.0 = added.1 ∙ ap (λ os. os ++ added.0) w.none_left in
-        let number : old.nodes - 1 ≡ node_after (map shape_of (ended_nodes ended)) = number_of_last (ended_nodes ended) n old.shapes.items old.nodes w.shapes_are w.count in
+        let number : old.nodes - 1 ≡ node_after (map script_shape (ended_nodes ended)) = number_of_last (ended_nodes ended) n old.shapes.items old.nodes w.shapes_are w.count in
         let m : NodeScript = record { shape = n.shape; events = n.events; ops = n.ops ++ added.0 } in
         let last : EndedNode = record { node = m; moved = moved } in
         let nodes_are : ended_nodes (ended ++ last ∷ []) ≡ ended_nodes ended ++ m ∷ [] = map-append (λ (e : EndedNode). e.node) ended (last ∷ []) in (
@@ -139,8 +139,8 @@ module _ (old new : JournalScript) (f : Folding) (p : List Op) (held : old.node 
                 ∙ ap (λ t. nodes_text [] (ended_nodes ended ++ n ∷ []) ++ t) (ap₂ (λ k os. commands_text k os) number all) ∙ sym (more_of_last (ended_nodes ended) n n.events added.0) ∙ ap (nodes_text []) (sym nodes_are);
             moved_is = sums ∙ ap (λ x. both_moved x moved) w.moved_is ∙ sym (fold_push (λ (x : Moved) (e : EndedNode). both_moved x e.moved) nothing_moved ended last);
             untried_are = tt;
-            out_of_turn_is = ap (λ t. t.out_of_turn) turns ∙ w.out_of_turn_is ∙ ap counted (sym (same_turns (ended_nodes ended) n m refl) ∙ ap out_of_turn_in (sym nodes_are));
-            shapes_are = ap (λ v. v.items) shapes ∙ w.shapes_are ∙ map-append shape_of (ended_nodes ended) (n ∷ []) ∙ sym (map-append shape_of (ended_nodes ended) (m ∷ [])) ∙ ap (map shape_of) (sym nodes_are);
+            out_of_turn_is = ap (λ t. t.out_of_turn) turns ∙ w.out_of_turn_is ∙ ap capped_count (sym (same_turns (ended_nodes ended) n m refl) ∙ ap out_of_turn_in (sym nodes_are));
+            shapes_are = ap (λ v. v.items) shapes ∙ w.shapes_are ∙ map-append script_shape (ended_nodes ended) (n ∷ []) ∙ sym (map-append script_shape (ended_nodes ended) (m ∷ [])) ∙ ap (map script_shape) (sym nodes_are);
             count = nodes ∙ w.count ∙ ap (λ v. min (length v.items) (2 ^ 32 - 1)) (sym shapes);
             none_left = none;
           },
@@ -156,7 +156,7 @@ begins old mid new s f ended shapes nodes taken text node folded moved ops untri
     let e = ended done now w in
     let n : NodeScript = record { shape = s; events = []; ops = [] } in
     let before : List NodeScript = ended_nodes e.0 in
-    let all : new.shapes.items ≡ map shape_of before ++ s ∷ [] = shapes ∙ ap (λ v. v ++ s ∷ []) e.2.shapes_are in (
+    let all : new.shapes.items ≡ map script_shape before ++ s ∷ [] = shapes ∙ ap (λ v. v ++ s ∷ []) e.2.shapes_are in (
       e.0,
       e.1,
       record {
@@ -164,11 +164,11 @@ begins old mid new s f ended shapes nodes taken text node folded moved ops untri
         begun_is = subst (λ x. IsBegun (Some n) x) (sym node) folded;
         text_is =
             more_written mid.taken new.taken mid.text.items new.text.items (nodes_text [] before) (head_text new.shapes.items) taken text e.2.text_is ∙ ap (λ u. nodes_text [] before ++ head_text u) all
-            ∙ ap (λ t. nodes_text [] before ++ t) (sym (append-nil (head_text (map shape_of before ++ s ∷ [])))) ∙ sym (one_more_node [] before n);
+            ∙ ap (λ t. nodes_text [] before ++ t) (sym (append-nil (head_text (map script_shape before ++ s ∷ [])))) ∙ sym (one_more_node [] before n);
         moved_is = moved ∙ e.2.moved_is;
         untried_are = untried;
-        out_of_turn_is = count ∙ e.2.out_of_turn_is ∙ ap counted (sym (no_turns before n refl));
-        shapes_are = all ∙ sym (map-append shape_of before (n ∷ []));
+        out_of_turn_is = count ∙ e.2.out_of_turn_is ∙ ap capped_count (sym (no_turns before n refl));
+        shapes_are = all ∙ sym (map-append script_shape before (n ∷ []));
         count = one_more_number mid.nodes (length mid.shapes.items) new.nodes e.2.count nodes ∙ ap (λ k. min k (2 ^ 32 - 1)) (sym (ap length shapes ∙ length-append mid.shapes.items (s ∷ [])));
         none_left = ap (λ v. v.items) ops ∙ e.2.none_left;
       },

@@ -5,7 +5,7 @@ use Rattle.thp_history.specs.declared.events.Event.{Event}
 use Rattle.thp_history.specs.Prelude.{History}
 use Rattle.thp_script.specs.declared.script.Op.{Op}
 use Rattle.thp_script.specs.declared.script.Op.TheVariants as op
-use Rattle.thp_journal_scripts.specs.Prelude.{EventKind, Call, Take, Try, Put, ScriptBatch, Idle, Taking, Trying, Scanned, Open, Closing, open_by, pending_ops, settled, Completes, IsPending, PutsMore, RepeatsUpTo, TakesMore, TriesMore, nothing_moved, IsFoldedTo, IsScript, Moved, IsCallOrScan, IsWholeScans, counted, Interleaves, IsOfBatch, IsScan, neither, first, second, call_in, calls_in, calls_of, kind_of, AreBy, IsBy, IsScanBy, Repeats, RepeatsBy}
+use Rattle.thp_journal_scripts.specs.Prelude.{EventKind, Call, Take, Try, Put, ScriptBatch, Idle, Taking, Trying, Scanned, Open, Closing, open_by, pending_ops, settled, Completes, IsPending, PutsMore, RepeatsUpTo, TakesMore, TriesMore, nothing_moved, IsFoldedTo, IsScript, Moved, IsCallOrScan, IsWholeScans, capped_count, Interleaves, IsOfBatch, IsScan, neither, first, second, call_in, calls_in, calls_of, kind_of, AreBy, IsBy, IsScanBy, Repeats, RepeatsBy}
 use Rattle.thp_journal_scripts.proofs.RepeatLaws.{calls_in_both, calls_of_more, is_plain, no_calls_in_tries, repeats_more, repeats_tries, IsPlain}
 
 -- ---- events of one kind
@@ -252,7 +252,7 @@ puts_nothing h past n c f =
 -- ---- out of order
 
 -- an event of a flight that waits
-pub waits : (h : History) (past : List Op) (b : ScriptBatch) (n m : ℕ) (e : Event) → call_in (kind_of e.what) ≡ [] → m ≡ counted (n + 1) → IsFoldedTo h past b n → IsFoldedTo (h ++ e ∷ []) past b m
+pub waits : (h : History) (past : List Op) (b : ScriptBatch) (n m : ℕ) (e : Event) → call_in (kind_of e.what) ≡ [] → m ≡ capped_count (n + 1) → IsFoldedTo h past b n → IsFoldedTo (h ++ e ∷ []) past b m
 waits h past b n m e none more f =
     let longer : length (f.away ++ e ∷ []) ≡ length f.away + 1 = length-append f.away (e ∷ []) in
     record {
@@ -270,10 +270,10 @@ waits h past b n m e none more f =
       none_late = λ zero. absurd (never_zero n m more zero);
     }
   where
-    count_more : (n m k l : ℕ) → m ≡ counted (n + 1) → n ≡ counted k → l ≡ k + 1 → m ≡ counted l
+    count_more : (n m k l : ℕ) → m ≡ capped_count (n + 1) → n ≡ capped_count k → l ≡ k + 1 → m ≡ capped_count l
     count_more n m k l more count longer = omega arith
 
-    never_zero : (n m : ℕ) → m ≡ counted (n + 1) → m ≡ 0 → ⊥
+    never_zero : (n m : ℕ) → m ≡ capped_count (n + 1) → m ≡ 0 → ⊥
     never_zero n m more zero = omega arith
 
 -- the scan of one
@@ -298,7 +298,7 @@ scans h past b n k some f = record {
 all_repeated : (h : History) (past : List Op) → RepeatsUpTo h past Idle → Repeats None past h None
 all_repeated h past r = subst (λ g. Repeats None past g None) (sym (r.parts ∙ ap (λ g. r.done ++ g) r.pending_is ∙ append-nil r.done)) r.repeats
 
-none_away : (away : History) → 0 ≡ counted (length away) → away ≡ []
+none_away : (away : History) → 0 ≡ capped_count (length away) → away ≡ []
 none_away [] zero = refl
 none_away (e ∷ es) zero = absurd (omega arith)
 

@@ -9,16 +9,16 @@ use Rattle.thp_history.specs.declared.events.What.{What}
 use Rattle.thp_history.specs.declared.events.What.TheVariants as what
 use Rattle.thp_history.specs.Prelude.{History}
 use Rattle.thp_script.specs.declared.script.Op.{Op}
-use Rattle.thp_journal_scripts.specs.Prelude.{EventKind, Folding, FlyingPage, ScriptBatch, settled, Completes, EndsPuts, EndsTakes, EndsTries, IsIncomplete, PutsMore, TakesMore, TakesSome, TriesMore, AddsPlain, flying, flying_after, leave, leave_if_freed, nothing_moved, pages_at, IsAt, IsAtPlace, IsQuiet, KeepsFlights, kind_of, once_ended, pages_after, IsCallOrScan, place_of_call, place_of_put, place_of_take, place_of_try, scan_place, scan_place_after, scan_place_of, without_first, ScanPlace, Between, InTakes, Elsewhere}
+use Rattle.thp_journal_scripts.specs.Prelude.{EventKind, Folding, FlyingPage, ScriptBatch, settled, Completes, EndsPuts, EndsTakes, EndsTries, IsIncomplete, PutsMore, TakesMore, TakesSome, TriesMore, AddsPlain, flying, flying_after, leave, leave_if_freed, nothing_moved, pages_in_scan, IsAtScan, IsAtPlace, IsQuiet, KeepsFlights, kind_of, once_ended, pages_after, IsCallOrScan, place_of_call, place_of_put, place_of_take, place_of_try, scan_place, scan_place_after, scan_place_of, pages_without, ScanPlace, Between, InTakes, Elsewhere}
 use Rattle.thp_journal_scripts.specs.declared.folding.EventKind.TheVariants as kind
 use Rattle.thp_journal_scripts.specs.declared.script_batch.ScriptBatch.TheVariants as batch
 
 -- an equal script is at the same place
-pub same_at : (s : ScanPlace) (ps : List ℕ) (a b : Folding) → b ≡ a → IsAt s ps a → IsAt s ps b
-same_at s ps a b same at = subst (λ f. IsAt s ps f) (sym same) at
+pub same_at : (s : ScanPlace) (ps : List ℕ) (a b : Folding) → b ≡ a → IsAtScan s ps a → IsAtScan s ps b
+same_at s ps a b same at = subst (λ f. IsAtScan s ps f) (sym same) at
 
-at_if : (b : Bool) (s : ScanPlace) (ps : List ℕ) (f : Folding) → (b ≡ true → IsAt s ps f) → IsAt (cond b s Elsewhere) ps f
-at_if b s ps f at = (elim b as (λ v. (v ≡ true → IsAt s ps f) → IsAt (cond v s Elsewhere) ps f) [ true ↦ λ a. a refl | false ↦ λ a. tt ]) at
+at_if : (b : Bool) (s : ScanPlace) (ps : List ℕ) (f : Folding) → (b ≡ true → IsAtScan s ps f) → IsAtScan (cond b s Elsewhere) ps f
+at_if b s ps f at = (elim b as (λ v. (v ≡ true → IsAtScan s ps f) → IsAtScan (cond v s Elsewhere) ps f) [ true ↦ λ a. a refl | false ↦ λ a. tt ]) at
 
 -- another batch
 quiet_with : (ps : List ℕ) (f : Folding) (after : ScriptBatch) → IsQuiet ps f → IsQuiet ps (record f { batch = after })
@@ -56,7 +56,7 @@ module _ (old : Folding) (by : ℕ) where
 
 -- ---- calls
 
-pub calls_on : (old new : Folding) → (old.batch ≡ batch.Idle → old.waiting.items ≡ [] → new ≡ old) → (s : ScanPlace) → IsAtPlace s old → IsAt (place_of_call s) (pages_at s) new
+pub calls_on : (old new : Folding) → (old.batch ≡ batch.Idle → old.waiting.items ≡ [] → new ≡ old) → (s : ScanPlace) → IsAtPlace s old → IsAtScan (place_of_call s) (pages_in_scan s) new
 calls_on old new same x at = grind (arith, same_at)
 
 pub settled_idle : (a m d : Folding) → m ≡ record a { batch = settled a.batch } → (m.waiting.items ≡ [] → d ≡ m) → a.batch ≡ batch.Idle → a.waiting.items ≡ [] → d ≡ a
@@ -65,40 +65,40 @@ settled_idle a m d rest same idle none = grind arith
 -- ---- takes
 
 module _ (old : Folding) (by : ℕ) where
-  pub takes_more : (after : ScriptBatch) (p : ℕ) → TakesMore old.batch by after → (s : ScanPlace) → IsAtPlace s old → IsAt (place_of_take s by (what.Taken p)) (pages_at s) (record old { batch = after })
+  pub takes_more : (after : ScriptBatch) (p : ℕ) → TakesMore old.batch by after → (s : ScanPlace) → IsAtPlace s old → IsAtScan (place_of_take s by (what.Taken p)) (pages_in_scan s) (record old { batch = after })
   takes_more after p more x at = grind (arith, at_if, nat_eq, nat_lt, length-append, takes_some, quiet_with)
 
   -- the batch takes no more
-  takes_end : (new : Folding) (p : ℕ) → EndsTakes old.batch by → (old.batch ≡ batch.Idle → IsAtPlace Between old → IsAt (InTakes by (p ∷ [])) [] new) → (s : ScanPlace) → IsAtPlace s old → IsAt (place_of_take s by (what.Taken p)) (pages_at s) new
+  takes_end : (new : Folding) (p : ℕ) → EndsTakes old.batch by → (old.batch ≡ batch.Idle → IsAtPlace Between old → IsAtScan (InTakes by (p ∷ [])) [] new) → (s : ScanPlace) → IsAtPlace s old → IsAtScan (place_of_take s by (what.Taken p)) (pages_in_scan s) new
   takes_end new p ends begins x at = grind (arith, at_if, nat_eq, nat_lt, nat_tests)
 
-  pub takes_first : (m : Folding) (x p : ℕ) → EndsTakes old.batch by → (old.batch ≡ batch.Idle → m ≡ old) → (s : ScanPlace) → IsAtPlace s old → IsAt (place_of_take s by (what.Taken p)) (pages_at s) (record m { flight = x; flights = x; batch = batch.Taking by 1 })
+  pub takes_first : (m : Folding) (x p : ℕ) → EndsTakes old.batch by → (old.batch ≡ batch.Idle → m ≡ old) → (s : ScanPlace) → IsAtPlace s old → IsAtScan (place_of_take s by (what.Taken p)) (pages_in_scan s) (record m { flight = x; flights = x; batch = batch.Taking by 1 })
   takes_first m x p ends same = grind (arith, takes_end, same_at)
 
-  pub takes_not : (m new : Folding) (p : ℕ) → EndsTakes old.batch by → (old.batch ≡ batch.Idle → m ≡ old) → (m.batch ≡ batch.Idle → m.waiting.items ≡ [] → ⊥) → (s : ScanPlace) → IsAtPlace s old → IsAt (place_of_take s by (what.Taken p)) (pages_at s) new
+  pub takes_not : (m new : Folding) (p : ℕ) → EndsTakes old.batch by → (old.batch ≡ batch.Idle → m ≡ old) → (m.batch ≡ batch.Idle → m.waiting.items ≡ [] → ⊥) → (s : ScanPlace) → IsAtPlace s old → IsAtScan (place_of_take s by (what.Taken p)) (pages_in_scan s) new
   takes_not m new p ends same busy = grind (arith, takes_end, same_at)
 
   -- ---- tries
 
-  pub tries_more : (after : ScriptBatch) (w : What) → TriesMore old.batch by after → (s : ScanPlace) → IsAtPlace s old → IsAt (place_of_try s by w) (pages_at s) (record old { batch = after })
+  pub tries_more : (after : ScriptBatch) (w : What) → TriesMore old.batch by after → (s : ScanPlace) → IsAtPlace s old → IsAtScan (place_of_try s by w) (pages_in_scan s) (record old { batch = after })
   tries_more after w more x at = grind (arith, at_if, nat_eq, tries_some, quiet_with, nat_lt)
 
   -- the batch has no more tries
-  pub tries_end : (new : Folding) (w : What) → EndsTries old.batch by → (s : ScanPlace) → IsAtPlace s old → IsAt (place_of_try s by w) (pages_at s) new
-  tries_end new w ends s at = subst (λ t. IsAt t (pages_at s) new) (sym (tries_shut old by w ends s at)) tt
+  pub tries_end : (new : Folding) (w : What) → EndsTries old.batch by → (s : ScanPlace) → IsAtPlace s old → IsAtScan (place_of_try s by w) (pages_in_scan s) new
+  tries_end new w ends s at = subst (λ t. IsAtScan t (pages_in_scan s) new) (sym (tries_shut old by w ends s at)) tt
 
   -- ---- pages put back
 
-  pub puts_more : (after : ScriptBatch) (w : What) → PutsMore old.batch by after → (s : ScanPlace) → IsAtPlace s old → IsAt (place_of_put s by w) (pages_at s) (record old { batch = after })
+  pub puts_more : (after : ScriptBatch) (w : What) → PutsMore old.batch by after → (s : ScanPlace) → IsAtPlace s old → IsAtScan (place_of_put s by w) (pages_in_scan s) (record old { batch = after })
   puts_more after w more x at = grind (arith, at_if, nat_eq, puts_some, quiet_with)
 
-  pub puts_end : (new : Folding) (w : What) → EndsPuts old.batch by → (s : ScanPlace) → IsAtPlace s old → IsAt (place_of_put s by w) (pages_at s) new
-  puts_end new w ends s at = subst (λ t. IsAt t (pages_at s) new) (sym (puts_shut old by w ends s at)) tt
+  pub puts_end : (new : Folding) (w : What) → EndsPuts old.batch by → (s : ScanPlace) → IsAtPlace s old → IsAtScan (place_of_put s by w) (pages_in_scan s) new
+  puts_end new w ends s at = subst (λ t. IsAtScan t (pages_in_scan s) new) (sym (puts_shut old by w ends s at)) tt
 
 -- ---- any event
 
 -- an event of one kind
-pub goes_take : (old new : Folding) (by : ℕ) (w : What) → kind_of w ≡ kind.Take → ((p : ℕ) → (s : ScanPlace) → IsAtPlace s old → IsAt (place_of_take s by (what.Taken p)) (pages_at s) new) → (s : ScanPlace) → IsAtPlace s old → IsAt (scan_place_of s (kind_of w) by w) (pages_at s) new
+pub goes_take : (old new : Folding) (by : ℕ) (w : What) → kind_of w ≡ kind.Take → ((p : ℕ) → (s : ScanPlace) → IsAtPlace s old → IsAtScan (place_of_take s by (what.Taken p)) (pages_in_scan s) new) → (s : ScanPlace) → IsAtPlace s old → IsAtScan (scan_place_of s (kind_of w) by w) (pages_in_scan s) new
 goes_take old new by x is goes s at = grind arith
 
 -- the same of commands
@@ -108,14 +108,14 @@ plain_take old o p by x is plain = grind arith
 pub plain_by : (old : Folding) (o p : List Op) (by : ℕ) (w : What) (k : EventKind) → kind_of w ≡ k → AddsPlain (λ s. scan_place_of s k by w) old o p → AddsPlain (λ s. scan_place_of s (kind_of w) by w) old o p
 plain_by old o p by w k is plain = subst (λ j. AddsPlain (λ s. scan_place_of s j by w) old o p) (sym is) plain
 
-pub goes_by : (old new : Folding) (by : ℕ) (w : What) (k : EventKind) → kind_of w ≡ k → ((s : ScanPlace) → IsAtPlace s old → IsAt (scan_place_of s k by w) (pages_at s) new) → (s : ScanPlace) → IsAtPlace s old → IsAt (scan_place_of s (kind_of w) by w) (pages_at s) new
-goes_by old new by w k is goes s at = subst (λ j. IsAt (scan_place_of s j by w) (pages_at s) new) (sym is) (goes s at)
+pub goes_by : (old new : Folding) (by : ℕ) (w : What) (k : EventKind) → kind_of w ≡ k → ((s : ScanPlace) → IsAtPlace s old → IsAtScan (scan_place_of s k by w) (pages_in_scan s) new) → (s : ScanPlace) → IsAtPlace s old → IsAtScan (scan_place_of s (kind_of w) by w) (pages_in_scan s) new
+goes_by old new by w k is goes s at = subst (λ j. IsAtScan (scan_place_of s j by w) (pages_in_scan s) new) (sym is) (goes s at)
 
 -- ---- the pages in flight
 
-leave_flying : (n p : ℕ) (ps : List ℕ) → leave p (map (flying n) ps) ≡ map (flying n) (without_first p ps)
+leave_flying : (n p : ℕ) (ps : List ℕ) → leave p (map (flying n) ps) ≡ map (flying n) (pages_without p ps)
 leave_flying n p [] = refl
-leave_flying n p (q ∷ ps) = elim (nat_eq q p) as (λ b. cond b (map (flying n) ps) (flying n q ∷ leave p (map (flying n) ps)) ≡ map (flying n) (cond b ps (q ∷ without_first p ps))) [
+leave_flying n p (q ∷ ps) = elim (nat_eq q p) as (λ b. cond b (map (flying n) ps) (flying n q ∷ leave p (map (flying n) ps)) ≡ map (flying n) (cond b ps (q ∷ pages_without p ps))) [
   | true ↦ refl
   | false ↦ ap (λ qs. flying n q ∷ qs) (leave_flying n p ps)
 ]
@@ -135,26 +135,26 @@ module _ (w : What) (old new : Folding) (same : new.batch ≡ old.batch) (moved 
   quiet_after : (ps qs : List ℕ) → ((n : ℕ) → flying_after w n (map (flying n) ps) ≡ map (flying n) qs) → IsQuiet ps old → IsQuiet qs new
   quiet_after ps qs flies quiet = grind arith
 
-  at_after : (ps qs : List ℕ) → ((n : ℕ) → flying_after w n (map (flying n) ps) ≡ map (flying n) qs) → (s : ScanPlace) → IsAt s ps old → IsAt s qs new
+  at_after : (ps qs : List ℕ) → ((n : ℕ) → flying_after w n (map (flying n) ps) ≡ map (flying n) qs) → (s : ScanPlace) → IsAtScan s ps old → IsAtScan s qs new
   at_after ps qs flies x at = grind (arith, quiet_after)
 
-  if_after : (b : Bool) (s : ScanPlace) (ps : List ℕ) → ((n : ℕ) → flying_after w n (map (flying n) ps) ≡ map (flying n) (pages_at s)) → IsAt (cond b s Elsewhere) ps old → IsAtPlace (cond b s Elsewhere) new
-  if_after b s ps flies = elim b as (λ v. IsAt (cond v s Elsewhere) ps old → IsAtPlace (cond v s Elsewhere) new) [ true ↦ at_after ps (pages_at s) flies s | false ↦ λ at. tt ]
+  if_after : (b : Bool) (s : ScanPlace) (ps : List ℕ) → ((n : ℕ) → flying_after w n (map (flying n) ps) ≡ map (flying n) (pages_in_scan s)) → IsAtScan (cond b s Elsewhere) ps old → IsAtPlace (cond b s Elsewhere) new
+  if_after b s ps flies = elim b as (λ v. IsAtScan (cond v s Elsewhere) ps old → IsAtPlace (cond v s Elsewhere) new) [ true ↦ at_after ps (pages_in_scan s) flies s | false ↦ λ at. tt ]
 
-  call_after : ((n : ℕ) → flying_after w n [] ≡ []) → (s : ScanPlace) → IsAt (place_of_call s) (pages_at s) old → IsAtPlace (place_of_call s) new
+  call_after : ((n : ℕ) → flying_after w n [] ≡ []) → (s : ScanPlace) → IsAtScan (place_of_call s) (pages_in_scan s) old → IsAtPlace (place_of_call s) new
   call_after flies x at = grind (arith, at_after)
 
   module _ (by : ℕ) (flies : (n : ℕ) (ps : List ℕ) → flying_after w n (map (flying n) ps) ≡ map (flying n) (pages_after w ps)) where
-    take_after : (s : ScanPlace) → IsAt (place_of_take s by w) (pages_at s) old → IsAtPlace (place_of_take s by w) new
+    take_after : (s : ScanPlace) → IsAtScan (place_of_take s by w) (pages_in_scan s) old → IsAtPlace (place_of_take s by w) new
     take_after x at = grind (arith, at_after, if_after, nat_eq, nat_lt)
 
-    try_after : (s : ScanPlace) → IsAt (place_of_try s by w) (pages_at s) old → IsAtPlace (place_of_try s by w) new
+    try_after : (s : ScanPlace) → IsAtScan (place_of_try s by w) (pages_in_scan s) old → IsAtPlace (place_of_try s by w) new
     try_after x at = grind (arith, if_after, nat_eq, nat_lt)
 
-    put_after : (s : ScanPlace) → IsAt (place_of_put s by w) (pages_at s) old → IsAtPlace (place_of_put s by w) new
+    put_after : (s : ScanPlace) → IsAtScan (place_of_put s by w) (pages_in_scan s) old → IsAtPlace (place_of_put s by w) new
     put_after x at = grind (arith, if_after, nat_eq)
 
-pub event_after : (w : What) (old new : Folding) → new.batch ≡ old.batch → new.moved ≡ old.moved → new.pages.items ≡ flying_after w old.flights old.pages.items → KeepsFlights old new → (by : ℕ) (s : ScanPlace) → IsAt (scan_place_of s (kind_of w) by w) (pages_at s) old → IsAtPlace (scan_place_of s (kind_of w) by w) new
+pub event_after : (w : What) (old new : Folding) → new.batch ≡ old.batch → new.moved ≡ old.moved → new.pages.items ≡ flying_after w old.flights old.pages.items → KeepsFlights old new → (by : ℕ) (s : ScanPlace) → IsAtScan (scan_place_of s (kind_of w) by w) (pages_in_scan s) old → IsAtPlace (scan_place_of s (kind_of w) by w) new
 event_after x old new same moved pages keeps by = grind (arith, call_after, freed_none, take_after, join_flying, try_after, leave_flying, put_after)
 
 -- ---- the end of a scan

@@ -13,7 +13,7 @@ use Rattle.thp_journal_scripts.specs.declared.open_flights.FlyingPage.{FlyingPag
 use Rattle.thp_journal_scripts.specs.declared.script_batch.ScriptBatch.{ScriptBatch}
 use Rattle.thp_journal_scripts.specs.declared.script_batch.ScriptBatch.TheVariants as batch
 use Rattle.thp_journal_scripts.specs.ScriptBatches.{RepeatsUpTo, TakesSome}
-use Rattle.thp_journal_scripts.specs.Moving.{counted, Interleaves, IsOfBatch, IsScan, RepeatsExcept}
+use Rattle.thp_journal_scripts.specs.Moving.{capped_count, Interleaves, IsOfBatch, IsScan, RepeatsExcept}
 use Rattle.thp_journal_scripts.specs.Repeating.{calls_in, calls_of, Repeats}
 use Rattle.thp_journal_scripts.specs.WholeScans.{scan_place, IsCallOrScan, IsWholeScans, ScanPlace, Between, InTakes, InTries, InPuts, Elsewhere}
 
@@ -45,7 +45,7 @@ pub record IsFoldedTo (h : History) (ops : List Op) (batch : ScriptBatch) (event
   pub repeats : RepeatsUpTo kept here batch
   pub away_are : All IsOfBatch away
   pub late_are : All IsScan late
-  pub count : events ≡ counted (length away)
+  pub count : events ≡ capped_count (length away)
   pub none_late : events ≡ 0 → late ≡ []
 
 abbrev pub HasCommands : History → List Op → Folding → Type 0
@@ -70,12 +70,12 @@ HasBatch (InPuts c ps) b = (n : ℕ) × (b ≡ batch.Scanned c n)
 HasBatch Elsewhere b = Unit {0}
 
 -- the pages in flight
-abbrev pub pages_at : ScanPlace → List ℕ
-pages_at Between = []
-pages_at (InTakes c ps) = ps
-pages_at (InTries c n k ps) = ps
-pages_at (InPuts c ps) = ps
-pages_at Elsewhere = []
+abbrev pub pages_in_scan : ScanPlace → List ℕ
+pages_in_scan Between = []
+pages_in_scan (InTakes c ps) = ps
+pages_in_scan (InTries c n k ps) = ps
+pages_in_scan (InPuts c ps) = ps
+pages_in_scan Elsewhere = []
 
 -- page p of the flight of this number
 abbrev pub flying : ℕ → ℕ → FlyingPage
@@ -95,16 +95,16 @@ pub record IsInScan (s : ScanPlace) (ps : List ℕ) (f : Folding) : Type 0 where
   pub quiet : IsQuiet ps f
 
 -- the same, unless the history is at no place of whole scans
-abbrev pub IsAt : ScanPlace → List ℕ → Folding → Type 0
-IsAt Elsewhere ps f = Unit {0}
-IsAt s ps f = IsInScan s ps f
+abbrev pub IsAtScan : ScanPlace → List ℕ → Folding → Type 0
+IsAtScan Elsewhere ps f = Unit {0}
+IsAtScan s ps f = IsInScan s ps f
 
 abbrev pub IsAtPlace : ScanPlace → Folding → Type 0
-IsAtPlace s f = IsAt s (pages_at s) f
+IsAtPlace s f = IsAtScan s (pages_in_scan s) f
 
 -- a step to another place, before the pages in flight change
 abbrev pub GoesOn : (ScanPlace → ScanPlace) → Folding → Folding → Type 0
-GoesOn step old new = (s : ScanPlace) → IsAtPlace s old → IsAt (step s) (pages_at s) new
+GoesOn step old new = (s : ScanPlace) → IsAtPlace s old → IsAtScan (step s) (pages_in_scan s) new
 
 -- the commands are calls and scans, unless the history is at no place of whole scans
 abbrev pub ArePlain : ScanPlace → List Op → Type 0
@@ -154,5 +154,5 @@ abbrev pub AddsTo : Event → Folding → Folding → List Op → Type 0
 AddsTo e old new more = (h : History) (past : List Op) → IsFolded h past old → IsFolded (h ++ e ∷ []) (past ++ more) new
 
 -- with these commands, it is a whole script
-abbrev pub Ends : Folding → Moved → List Op → Type 0
-Ends old moved more = (h : History) (past : List Op) → IsFolded h past old → IsScript h (past ++ more) moved
+abbrev pub FoldEnds : Folding → Moved → List Op → Type 0
+FoldEnds old moved more = (h : History) (past : List Op) → IsFolded h past old → IsScript h (past ++ more) moved

@@ -9,9 +9,9 @@ use Rattle.thp_journal_reader.specs.declared.line.Line.{Line}
 use Rattle.thp_journal_reader.specs.declared.line.Line.TheVariants.{Node, Happened}
 use Rattle.thp_journal_scripts.specs.declared.folding.Moved.{Moved}
 use Rattle.thp_journal_scripts.specs.declared.script_check.Scripted.{Scripted}
-use Rattle.thp_journal_reader.specs.Prelude.{AreLegalBefore, ReportsFirst, ReadSoFar}
-use Rattle.thp_journal_scripts.specs.Moving.{counted}
-use Rattle.thp_journal_scripts.specs.NodeScripts.{moved_in, nodes_of, nodes_text, out_of_turn_in, BeginsNode, EndedNode, GoesOnWith, IsEnded, IsWriting, NodeScript}
+use Rattle.thp_journal_reader.specs.Prelude.{AreLegalBefore, ReportsFirst, JournalReadSoFar}
+use Rattle.thp_journal_scripts.specs.Moving.{capped_count}
+use Rattle.thp_journal_scripts.specs.NodeScripts.{moved_in, node_scripts, nodes_text, out_of_turn_in, BeginsNode, EndedNode, GoesOnWith, IsEnded, IsWriting, NodeScript}
 
 -- the nodes up to the first illegal event, the last of them with the events before it
 pub record IsLegalPart (nodes part : List ReadNode) : Type 0 where
@@ -30,8 +30,8 @@ LegalPart nodes None part = part ≡ nodes
 LegalPart nodes (Some illegal) part = IsLegalPart nodes part
 
 -- a node's shape and events
-abbrev pub told_of : ReadNode → Shape × History
-told_of n = (n.shape, n.events)
+abbrev pub shape_and_events : ReadNode → Shape × History
+shape_and_events n = (n.shape, n.events)
 
 -- those of a node's script
 abbrev pub repeated_of : NodeScript → Shape × History
@@ -46,10 +46,10 @@ pub record IsScriptOf (nodes : List ReadNode) (illegal : Option Illegal) (text :
   pub legal : LegalPart nodes illegal part
   pub scripts : List EndedNode
   pub each : All IsEnded scripts
-  pub same : map told_of part ≡ map repeated_of (ended_nodes scripts)
+  pub same : map shape_and_events part ≡ map repeated_of (ended_nodes scripts)
   pub text_is : text ≡ nodes_text [] (ended_nodes scripts)
   pub moved_is : moved ≡ moved_in scripts
-  pub out_of_turn_is : turns ≡ counted (out_of_turn_in (ended_nodes scripts))
+  pub out_of_turn_is : turns ≡ capped_count (out_of_turn_in (ended_nodes scripts))
 
 -- the first illegal event of the nodes and their script, of which this text was taken out before
 pub record AreScripted (nodes : List ReadNode) (taken : List ℕ) (scripted : Scripted) : Type 0 where
@@ -64,7 +64,7 @@ pub record IsScripting (nodes : List ReadNode) (illegal : Option Illegal) (s : J
   pub legal : LegalPart nodes illegal part
   pub ended : List EndedNode
   pub begun : Option NodeScript
-  pub same : map told_of part ≡ map repeated_of (nodes_of ended begun)
+  pub same : map shape_and_events part ≡ map repeated_of (node_scripts ended begun)
   pub goes_on : illegal ≡ None → begun ≡ None → ended ≡ []
   pub writing : IsWriting ended begun s
 
@@ -76,6 +76,6 @@ AddsLine _ old new = new ≡ old
 
 -- The state of a check that also writes a script: what was read, the text that was taken out, and the rest of it.
 pub record ScriptSoFar : Type 0 where
-  pub read : ReadSoFar
+  pub read : JournalReadSoFar
   pub taken : List ℕ
   pub untaken : List ℕ

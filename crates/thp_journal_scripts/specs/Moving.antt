@@ -23,12 +23,12 @@ IsScan (op.Scan n) = Unit {0}
 IsScan o = ⊥
 
 -- a count that stops at the greatest number of 64 bits
-abbrev pub counted : ℕ → ℕ
-counted n = min n (2 ^ 64 - 1)
+abbrev pub capped_count : ℕ → ℕ
+capped_count n = min n (2 ^ 64 - 1)
 
 -- what the scripts of two nodes move
 abbrev pub both_moved : Moved → Moved → Moved
-both_moved a b = record { batches = counted (a.batches + b.batches); calls = counted (a.calls + b.calls); events = counted (a.events + b.events); left = counted (a.left + b.left) }
+both_moved a b = record { batches = capped_count (a.batches + b.batches); calls = capped_count (a.calls + b.calls); events = capped_count (a.events + b.events); left = capped_count (a.left + b.left) }
 
 -- The commands repeat the history at their places, except so many events of batches that are not at their place; the commands
 -- besides are scans.
@@ -42,4 +42,4 @@ pub record RepeatsExcept (h : History) (ops : List Op) (events : ℕ) : Type 0 w
   pub repeats : Repeats None here kept None
   pub away_are : All IsOfBatch away
   pub late_are : All IsScan late
-  pub count : events ≡ counted (length away)
+  pub count : events ≡ capped_count (length away)

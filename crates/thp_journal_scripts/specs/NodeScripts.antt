@@ -9,7 +9,7 @@ use Rattle.thp_journal_scripts.specs.declared.journal_script.JournalScript.{Jour
 use Rattle.thp_journal_scripts.specs.declared.folding.Moved.{Moved}
 use Rattle.thp_journal_scripts.specs.Folds.{nothing_moved, IsFolded, IsScript}
 use Rattle.thp_journal_scripts.specs.declared.turns.UntriedPage.{UntriedPage}
-use Rattle.thp_journal_scripts.specs.Moving.{both_moved, counted}
+use Rattle.thp_journal_scripts.specs.Moving.{both_moved, capped_count}
 use Rattle.thp_journal_scripts.specs.ScriptTexts.{commands_text, options_line}
 use Rattle.thp_journal_scripts.specs.Turns.{out_of_turn, turns_of}
 
@@ -21,8 +21,8 @@ pub record NodeScript : Type 0 where
   pub events : History
   pub ops : List Op
 
-abbrev pub shape_of : NodeScript → Shape
-shape_of n = n.shape
+abbrev pub script_shape : NodeScript → Shape
+script_shape n = n.shape
 
 -- the number of the node after those of these shapes
 abbrev pub node_after : List Shape → ℕ
@@ -38,13 +38,13 @@ abbrev pub head_text : List Shape → List ℕ
 head_text shapes = options_line shapes ++ setup_line shapes
 
 -- the options for the nodes so far, and the commands of the last one
-abbrev pub node_text : List Shape → NodeScript → List ℕ
-node_text before n = head_text (before ++ n.shape ∷ []) ++ commands_text (node_after before) n.ops
+abbrev pub node_script_text : List Shape → NodeScript → List ℕ
+node_script_text before n = head_text (before ++ n.shape ∷ []) ++ commands_text (node_after before) n.ops
 
 -- the script of nodes, after nodes of these shapes
 abbrev pub nodes_text : List Shape → List NodeScript → List ℕ
 nodes_text before [] = []
-nodes_text before (n ∷ nodes) = node_text before n ++ nodes_text (before ++ n.shape ∷ []) nodes
+nodes_text before (n ∷ nodes) = node_script_text before n ++ nodes_text (before ++ n.shape ∷ []) nodes
 
 -- ---- how far it has been written
 
@@ -57,9 +57,9 @@ abbrev pub IsEnded : EndedNode → Type 0
 IsEnded e = IsScript e.node.events e.node.ops e.moved
 
 -- the nodes that have ended, and the one that has begun, if there is one
-abbrev pub nodes_of : List EndedNode → Option NodeScript → List NodeScript
-nodes_of ended None = map (λ (e : EndedNode). e.node) ended
-nodes_of ended (Some n) = map (λ (e : EndedNode). e.node) ended ++ n ∷ []
+abbrev pub node_scripts : List EndedNode → Option NodeScript → List NodeScript
+node_scripts ended None = map (λ (e : EndedNode). e.node) ended
+node_scripts ended (Some n) = map (λ (e : EndedNode). e.node) ended ++ n ∷ []
 
 -- what the scripts of the nodes move
 abbrev pub moved_in : List EndedNode → Moved
@@ -98,11 +98,11 @@ AreUntried (Some n) pages = pages ≡ (turns_of n.events).untried
 pub record IsWriting (ended : List EndedNode) (begun : Option NodeScript) (s : JournalScript) : Type 0 where
   pub each : All IsEnded ended
   pub begun_is : IsBegun begun s.node
-  pub text_is : taken_of s ++ untaken s ≡ nodes_text [] (nodes_of ended begun)
+  pub text_is : taken_of s ++ untaken s ≡ nodes_text [] (node_scripts ended begun)
   pub moved_is : moved_by s ≡ moved_in ended
   pub untried_are : AreUntried begun s.turns.untried.items
-  pub out_of_turn_is : out_of_turn_by s ≡ counted (out_of_turn_in (nodes_of ended begun))
-  pub shapes_are : s.shapes.items ≡ map shape_of (nodes_of ended begun)
+  pub out_of_turn_is : out_of_turn_by s ≡ capped_count (out_of_turn_in (node_scripts ended begun))
+  pub shapes_are : s.shapes.items ≡ map script_shape (node_scripts ended begun)
   pub count : s.nodes ≡ min (length s.shapes.items) (2 ^ 32 - 1)
   pub none_left : s.ops.items ≡ []
 

@@ -1,14 +1,14 @@
 -- Re-exports the definitions and types of this library: other files import those that they cite from here, in one line.
-pub use Rattle.thp_journal_scripts.specs.Folds.{AddsCommands, AddsEvent, AddsPlain, AddsTo, Ends, GoesOn, HasAdded, IsAt, IsAtPlace, IsFolded, IsFoldedTo, IsInScan, IsQuiet, IsScript, KeepsFlights, flying, flying_after, leave, leave_if_freed, nothing_moved, pages_at}
-pub use Rattle.thp_journal_scripts.specs.JournalScripts.{AddsLine, AreScripted, IsLegalPart, IsScriptOf, IsScripting, ScriptSoFar, ended_nodes, repeated_of, told_of}
-pub use Rattle.thp_journal_scripts.specs.Moving.{Interleaves, IsOfBatch, IsScan, both_moved, counted, first, neither, second}
-pub use Rattle.thp_journal_scripts.specs.NodeScripts.{BeginsNode, EndedNode, EndsAs, EndsNode, GoesOnAs, GoesOnWith, IsBegun, IsEnded, IsWriting, NodeScript, StaysWritten, head_text, moved_by, node_after, node_text, nodes_of, nodes_text, out_of_turn_by, out_of_turn_in, shape_of, taken_of, untaken}
+pub use Rattle.thp_journal_scripts.specs.Folds.{AddsCommands, AddsEvent, AddsPlain, AddsTo, FoldEnds, GoesOn, HasAdded, IsAtPlace, IsAtScan, IsFolded, IsFoldedTo, IsInScan, IsQuiet, IsScript, KeepsFlights, flying, flying_after, leave, leave_if_freed, nothing_moved, pages_in_scan}
+pub use Rattle.thp_journal_scripts.specs.JournalScripts.{AddsLine, AreScripted, IsLegalPart, IsScriptOf, IsScripting, ScriptSoFar, ended_nodes, repeated_of, shape_and_events}
+pub use Rattle.thp_journal_scripts.specs.Moving.{Interleaves, IsOfBatch, IsScan, both_moved, capped_count, first, neither, second}
+pub use Rattle.thp_journal_scripts.specs.NodeScripts.{BeginsNode, EndedNode, EndsAs, EndsNode, GoesOnAs, GoesOnWith, IsBegun, IsEnded, IsWriting, NodeScript, StaysWritten, head_text, moved_by, node_after, node_script_text, node_scripts, nodes_text, out_of_turn_by, out_of_turn_in, script_shape, taken_of, untaken}
 pub use Rattle.thp_journal_scripts.specs.Repeating.{AreBy, IsBy, IsCall, IsScanBy, Repeats, RepeatsBy, call_in, calls_in, calls_of, is_call, kind_of}
 pub use Rattle.thp_journal_scripts.specs.ScriptBatches.{Completes, EndsPuts, EndsTakes, EndsTries, IsIncomplete, IsPending, IsSettled, PutsMore, RepeatsUpTo, TakesMore, TakesSome, TriesMore, open_by, pending_ops, settled}
 pub use Rattle.thp_journal_scripts.specs.ScriptTexts.{blocks_text, command_line, commands_text, count_text, orders_text, thresholds_text}
 unfoldable pub use Rattle.thp_journal_scripts.specs.ScriptTexts.{options_line}
-pub use Rattle.thp_journal_scripts.specs.Turns.{TurnsSoFar, done_page, first_of, is_other, is_out_of_turn, out_of_turn, taken_by, tried_page, turns_after, turns_of, unless_done, untried_after, without}
-pub use Rattle.thp_journal_scripts.specs.WholeScans.{Between, Elsewhere, InPuts, InTakes, InTries, IsCallOrScan, IsWholeScans, ScanPlace, once_ended, pages_after, place_of_call, place_of_put, place_of_take, place_of_try, scan_place, scan_place_after, scan_place_of, without_first}
+pub use Rattle.thp_journal_scripts.specs.Turns.{TurnsSoFar, done_page, first_untried, is_other, is_out_of_turn, out_of_turn, taken_by, tried_page, turns_after, turns_of, unless_done, untried_after, without_place}
+pub use Rattle.thp_journal_scripts.specs.WholeScans.{Between, Elsewhere, InPuts, InTakes, InTries, IsCallOrScan, IsWholeScans, ScanPlace, once_ended, pages_after, pages_without, place_of_call, place_of_put, place_of_take, place_of_try, scan_place, scan_place_after, scan_place_of}
 pub use Rattle.thp_journal_scripts.specs.declared.folding.EventKind.{EventKind}
 pub use Rattle.thp_journal_scripts.specs.declared.folding.EventKind.TheVariants.{Call, Put, Take, Try}
 pub use Rattle.thp_journal_scripts.specs.declared.folding.Folding.{Folding}

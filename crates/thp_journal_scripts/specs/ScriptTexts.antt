@@ -4,39 +4,39 @@ use Rattle.thp_history.specs.declared.shape.Shape.{Shape}
 use Rattle.thp_script.specs.declared.script.Command.{Command}
 use Rattle.thp_script.specs.declared.script.Op.{Op}
 use Rattle.thp_script.specs.declared.script.Op.TheVariants as op
-use Rattle.thp_journal_writer.specs.Prelude.{line_of, ended, underused_word}
+use Rattle.thp_journal_writer.specs.Prelude.{spaced_line, ended, underused_word}
 
-abbrev pub node_words : List ℕ → ℕ → List (List ℕ)
-node_words name n = name ∷ decimal n ∷ []
+abbrev pub node_command_words : List ℕ → ℕ → List (List ℕ)
+node_command_words name n = name ∷ decimal n ∷ []
 
-abbrev pub page_words : List ℕ → ℕ → ℕ → List (List ℕ)
-page_words name n p = name ∷ decimal n ∷ decimal p ∷ []
+abbrev pub page_command_words : List ℕ → ℕ → ℕ → List (List ℕ)
+page_command_words name n p = name ∷ decimal n ∷ decimal p ∷ []
 
-abbrev pub range_words : List ℕ → ℕ → ℕ → ℕ → ℕ → List (List ℕ)
-range_words name n p first count = name ∷ decimal n ∷ decimal p ∷ decimal first ∷ decimal count ∷ []
+abbrev pub range_command_words : List ℕ → ℕ → ℕ → ℕ → ℕ → List (List ℕ)
+range_command_words name n p first count = name ∷ decimal n ∷ decimal p ∷ decimal first ∷ decimal count ∷ []
 
 -- a command on node n: its name, the node, and its operands
 abbrev pub op_words : ℕ → Op → List (List ℕ)
-op_words n op.Alloc = node_words (codes "alloc") n
-op_words n (op.MapWhole p) = page_words (codes "mapwhole") n p
-op_words n (op.UnmapWhole p) = page_words (codes "unmapwhole") n p
-op_words n (op.Map first count p) = range_words (codes "map") n p first count
-op_words n (op.Unmap first count p) = range_words (codes "unmap") n p first count
-op_words n (op.Write first count p) = range_words (codes "write") n p first count
-op_words n (op.Zero first count p) = range_words (codes "zero") n p first count
-op_words n (op.SplitPmd p) = page_words (codes "splitpmd") n p
-op_words n (op.Pin p) = page_words (codes "pin") n p
-op_words n (op.Unpin p) = page_words (codes "unpin") n p
-op_words n op.Close = node_words (codes "close") n
-op_words n (op.Scan count) = page_words (codes "scan") n count
-op_words n op.Count = node_words (codes "count") n
-op_words n (op.Take count) = page_words (codes "take") n count
-op_words n op.SplitNext = node_words (codes "splitnext") n
-op_words n op.PutBack = node_words (codes "putback") n
+op_words n op.Alloc = node_command_words (codes "alloc") n
+op_words n (op.MapWhole p) = page_command_words (codes "mapwhole") n p
+op_words n (op.UnmapWhole p) = page_command_words (codes "unmapwhole") n p
+op_words n (op.Map first count p) = range_command_words (codes "map") n p first count
+op_words n (op.Unmap first count p) = range_command_words (codes "unmap") n p first count
+op_words n (op.Write first count p) = range_command_words (codes "write") n p first count
+op_words n (op.Zero first count p) = range_command_words (codes "zero") n p first count
+op_words n (op.SplitPmd p) = page_command_words (codes "splitpmd") n p
+op_words n (op.Pin p) = page_command_words (codes "pin") n p
+op_words n (op.Unpin p) = page_command_words (codes "unpin") n p
+op_words n op.Close = node_command_words (codes "close") n
+op_words n (op.Scan count) = page_command_words (codes "scan") n count
+op_words n op.Count = node_command_words (codes "count") n
+op_words n (op.Take count) = page_command_words (codes "take") n count
+op_words n op.SplitNext = node_command_words (codes "splitnext") n
+op_words n op.PutBack = node_command_words (codes "putback") n
 
 -- the line of a command
 abbrev pub command_line : Command → List ℕ
-command_line c = ended (line_of (op_words c.node c.op))
+command_line c = ended (spaced_line (op_words c.node c.op))
 
 -- the lines of commands on node n
 abbrev pub commands_text : ℕ → List Op → List ℕ

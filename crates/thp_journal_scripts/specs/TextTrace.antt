@@ -4,6 +4,6 @@ use Rattle.thp_journal_scripts.specs.declared.journal_script.TextChain.{TextChai
 use Rattle.thp_journal_scripts.specs.declared.journal_script.TextChain.TheVariants.{Start, Then'}
 
 -- the parts one after the other, the oldest first
-abbrev pub text_in : TextChain → List ℕ
-text_in Start = []
-text_in (Then' text shape before) = text_in before ++ text.value.items
+abbrev pub traced_text : TextChain → List ℕ
+traced_text Start = []
+traced_text (Then' text shape before) = traced_text before ++ text.value.items

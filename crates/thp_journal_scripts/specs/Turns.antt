@@ -24,14 +24,14 @@ done_page (Dropped p) = Some p
 done_page w = tried_page w
 
 -- the pages without the one at a place, if there is a place
-abbrev pub without : Option ℕ → List UntriedPage → List UntriedPage
-without None pages = pages
-without (Some i) pages = remove pages i
+abbrev pub without_place : Option ℕ → List UntriedPage → List UntriedPage
+without_place None pages = pages
+without_place (Some i) pages = remove pages i
 
 -- the pages without the first p, if there is a p
 abbrev pub unless_done : Option ℕ → List UntriedPage → List UntriedPage
 unless_done None pages = pages
-unless_done (Some p) pages = without (position (λ (u : UntriedPage). nat_eq u.page p) pages) pages
+unless_done (Some p) pages = without_place (position (λ (u : UntriedPage). nat_eq u.page p) pages) pages
 
 -- the page that a caller takes
 abbrev pub taken_by : ℕ → What → List UntriedPage
@@ -43,8 +43,8 @@ abbrev pub untried_after : List UntriedPage → Event → List UntriedPage
 untried_after pages e = unless_done (done_page e.what) pages ++ taken_by e.caller e.what
 
 -- the first of a caller's pages
-abbrev pub first_of : ℕ → List UntriedPage → Option UntriedPage
-first_of c pages = find (λ (u : UntriedPage). nat_eq u.caller c) pages
+abbrev pub first_untried : ℕ → List UntriedPage → Option UntriedPage
+first_untried c pages = find (λ (u : UntriedPage). nat_eq u.caller c) pages
 
 abbrev pub is_page : ℕ → Option UntriedPage → Bool
 is_page p None = false
@@ -53,7 +53,7 @@ is_page p (Some u) = nat_eq u.page p
 -- another page than the caller's first is tried
 abbrev pub is_other : List UntriedPage → ℕ → Option ℕ → Bool
 is_other pages c None = false
-is_other pages c (Some p) = not (is_page p (first_of c pages))
+is_other pages c (Some p) = not (is_page p (first_untried c pages))
 
 -- an event tries another page than the first that its caller has taken and not tried yet
 abbrev pub is_out_of_turn : List UntriedPage → Event → Bool

@@ -20,17 +20,17 @@ pub data ScanPlace : Type 0 where
   Elsewhere : ScanPlace
 
 -- the pages without the first p
-abbrev pub without_first : ℕ → List ℕ → List ℕ
-without_first p [] = []
-without_first p (q ∷ ps) = if nat_eq q p then ps else (q ∷ without_first p ps)
+abbrev pub pages_without : ℕ → List ℕ → List ℕ
+pages_without p [] = []
+pages_without p (q ∷ ps) = if nat_eq q p then ps else (q ∷ pages_without p ps)
 
 -- the pages in flight after an event of a scan
 abbrev pub pages_after : What → List ℕ → List ℕ
 pages_after (Taken p) ps = ps ++ p ∷ []
-pages_after (Split p released) ps = without_first p ps
-pages_after (Used p) ps = without_first p ps
-pages_after (Back p) ps = without_first p ps
-pages_after (Dropped p) ps = without_first p ps
+pages_after (Split p released) ps = pages_without p ps
+pages_after (Used p) ps = pages_without p ps
+pages_after (Back p) ps = pages_without p ps
+pages_after (Dropped p) ps = pages_without p ps
 pages_after _ ps = ps
 
 -- one more take by caller c

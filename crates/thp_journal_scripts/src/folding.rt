@@ -4,7 +4,7 @@ ghost use Rattle.thp_history.specs.Prelude.{event_with};
 ghost use Rattle.thp_history.specs.declared.events.Event.{Event};
 ghost use Rattle.thp_history.specs.declared.events.What.{What};
 ghost use Rattle.thp_history.specs.declared.events.What.TheVariants.{Taken};
-ghost use Rattle.thp_journal_scripts.specs.Prelude.{both_moved, counted, flying_after, kind_of, leave_if_freed, once_ended, pending_ops, place_of_call, place_of_put, place_of_take, place_of_try, scan_place_of, settled, AddsCommands, AddsEvent, AddsPlain, AddsTo, Call, Ends, GoesOn, HasAdded, Idle, IsAtPlace, IsBy, IsFolded, IsSettled, KeepsFlights, Open, Put, ScanPlace, Take, Try};
+ghost use Rattle.thp_journal_scripts.specs.Prelude.{both_moved, capped_count, flying_after, kind_of, leave_if_freed, once_ended, pending_ops, place_of_call, place_of_put, place_of_take, place_of_try, scan_place_of, settled, AddsCommands, AddsEvent, AddsPlain, AddsTo, Call, FoldEnds, GoesOn, HasAdded, Idle, IsAtPlace, IsBy, IsFolded, IsSettled, KeepsFlights, Open, Put, ScanPlace, Take, Try};
 
 use crate::open_flights::{FlyingPage, WaitingFlight, extend_last, has_flight, leave, lose_page};
 use crate::script_batch::ScriptBatch;
@@ -76,7 +76,7 @@ impl Folding {
 
     /// Ends the script: appends the remaining commands, and returns what it does in another order than the history.
     pub(crate) fn finish(self, ops: &mut Vec<Op>) -> Result<Moved, AllocError>
-        ensures { IfOk result (λ moved. HasAdded ops.old.items ops.new.items (Ends self moved)) }
+        ensures { IfOk result (λ moved. HasAdded ops.old.items ops.new.items (FoldEnds self moved)) }
     {
         let mut folding = self;
         let left = folding.pages.len() as u64;
@@ -116,7 +116,7 @@ impl Folding {
     /// Counts an event of a batch that is not at its place.
     fn count_event(&mut self)
         ensures batch { self.new.batch ≡ self.old.batch }
-        ensures events { self.new.moved.events ≡ counted (self.old.moved.events + 1) }
+        ensures events { self.new.moved.events ≡ capped_count (self.old.moved.events + 1) }
     {
         self.moved.events = self.moved.events.saturating_add(1);
     }
@@ -165,7 +165,7 @@ impl Folding {
     /// Adds a take to the flights that wait.
     fn wait(&mut self, caller: u32) -> Result<(), AllocError>
         ensures batch { self.new.batch ≡ self.old.batch }
-        ensures events { self.new.moved.events ≡ counted (self.old.moved.events + 1) }
+        ensures events { self.new.moved.events ≡ capped_count (self.old.moved.events + 1) }
     {
         self.count_event();
         if has_flight(&self.pages, self.flights) && extend_last(&mut self.waiting, caller) {

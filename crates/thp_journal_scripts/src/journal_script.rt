@@ -148,11 +148,11 @@ pub(crate) struct TextTrace {
 
 impl Model for TextTrace {
     ghost use Rattle.std.specs.Prelude.{ℕ, List};
-    ghost use Rattle.thp_journal_scripts.specs.TextTrace.{text_in};
+    ghost use Rattle.thp_journal_scripts.specs.TextTrace.{traced_text};
 
     ghost Value = { List ℕ };
 
-    ghost view = { λ t. text_in t.parts.value };
+    ghost view = { λ t. traced_text t.parts.value };
 }
 
 impl TextTrace {

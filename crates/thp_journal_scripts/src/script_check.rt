@@ -1,7 +1,7 @@
 //! The check of journals of any length that also writes the script that repeats them.
 ghost use Rattle.std.specs.Prelude.{◌≡◌, ◌++◌, Ok, Err, [], IfOk, IfErr, ℕ, false, List, OnOk};
 ghost use Rattle.thp_journal_scripts.specs.Prelude.{taken_of, untaken, AddsLine, AreScripted, IsScriptOf, IsScripting};
-ghost use Rattle.thp_journal_reader.specs.Prelude.{follows_later, journals_within, nodes_told, told_with, FollowsLines, KeepsNothing, ReportsLongReadFault};
+ghost use Rattle.thp_journal_reader.specs.Prelude.{follows_later, journals_within, nodes_read, result_with, FollowsLines, KeepsNothing, ReportsLongReadFault};
 ghost use Rattle.thp_journal_reader.specs.declared.journals.ReadJournals.{ReadJournals};
 ghost use Rattle.thp_journal_reader.specs.declared.journals.ReadNode.{ReadNode};
 ghost use Rattle.thp_script.specs.Prelude.{max_counted, Text};
@@ -23,21 +23,21 @@ pub struct ScriptCheck {
 
 impl Model for ScriptCheck {
     ghost use Rattle.std.specs.Prelude.{◌≤◌, false};
-    ghost use Rattle.thp_journal_reader.specs.Prelude.{nodes_told, FollowsLines, KeepsNothing, so_far};
+    ghost use Rattle.thp_journal_reader.specs.Prelude.{nodes_read, FollowsLines, KeepsNothing, so_far};
     ghost use Rattle.thp_journal_scripts.specs.Prelude.{taken_of, untaken, IsScripting, ScriptSoFar};
     ghost use Rattle.thp_script.specs.Prelude.{max_counted};
 
     ghost Value = { ScriptSoFar };
 
-    ghost view = { λ c. record { read = so_far (nodes_told c.text.nodes.checked.lines) c.text.place c.text.text; taken = taken_of c.text.nodes.script; untaken = untaken c.text.nodes.script } };
+    ghost view = { λ c. record { read = so_far (nodes_read c.text.nodes.checked.lines) c.text.place c.text.text; taken = taken_of c.text.nodes.script; untaken = untaken c.text.nodes.script } };
 
-    ghost invariant = { λ c. FollowsLines (λ replay. replay) KeepsNothing false c.text.text.line c.text.nodes.checked × IsScripting (nodes_told c.text.nodes.checked.lines) c.text.nodes.checked.follower.illegal c.text.nodes.script × (c.text.text.most ≤ max_counted) };
+    ghost invariant = { λ c. FollowsLines (λ replay. replay) KeepsNothing false c.text.text.line c.text.nodes.checked × IsScripting (nodes_read c.text.nodes.checked.lines) c.text.nodes.checked.follower.illegal c.text.nodes.script × (c.text.text.most ≤ max_counted) };
 }
 
 impl ScriptCheck {
     /// Creates a check that has read nothing. The journals can have any length.
     pub fn new(alloc: Global) -> ScriptCheck
-        ensures tells { (text : Text) → told_with result.read text ≡ journals_within max_counted text }
+        ensures reports { (text : Text) → result_with result.read text ≡ journals_within max_counted text }
         ensures taken { result.taken ≡ [] }
         ensures untaken { result.untaken ≡ [] }
     {
@@ -53,7 +53,7 @@ impl ScriptCheck {
     /// Reads the next part of the text. After the first error the part is ignored. Fails if memory for a node's replay, for the
     /// script of the part, or for a line that spans several parts, can't be allocated.
     pub fn read_part(self, part: &[u8]) -> Result<ScriptCheck, AllocError>
-        ensures tells { IfOk result (λ check. (more : Text) → told_with check.read more ≡ told_with self.read (part.now ++ more)) }
+        ensures reports { IfOk result (λ check. (more : Text) → result_with check.read more ≡ result_with self.read (part.now ++ more)) }
         ensures taken { IfOk result (λ check. check.taken ≡ self.taken) }
     {
         let text = self.text.read_part(part)?;
@@ -78,8 +78,8 @@ impl ScriptCheck {
     /// node's events are legal; and the rest of the script. Fails with the first error of the text, even if that is after an
     /// illegal event, and if memory for the rest of the script can't be allocated.
     pub fn finish(self) -> Result<Scripted, LongReadFault>
-        ensures scripted { IfOk result (λ scripted. (journals : ReadJournals) × (told_with self.read [] ≡ Ok journals) × AreScripted journals.nodes self.taken scripted) }
-        ensures fault { IfErr result (ReportsLongReadFault (told_with self.read [])) }
+        ensures scripted { IfOk result (λ scripted. (journals : ReadJournals) × (result_with self.read [] ≡ Ok journals) × AreScripted journals.nodes self.taken scripted) }
+        ensures fault { IfErr result (ReportsLongReadFault (result_with self.read [])) }
     {
         match self.text.finish() {
             Ok(nodes) => Ok(nodes.finish()?),
@@ -156,9 +156,9 @@ fn add_line(script: &mut JournalScript, line: &Line) -> Result<(), AllocError>
 }
 
 impl KeepsNodes for ScriptedNodes {
-    ghost told = { λ nodes. nodes_told nodes.checked.lines };
+    ghost reported = { λ nodes. nodes_read nodes.checked.lines };
 
-    ghost goes_along = { λ number nodes. FollowsLines (λ replay. replay) KeepsNothing false number nodes.checked × IsScripting (nodes_told nodes.checked.lines) nodes.checked.follower.illegal nodes.script };
+    ghost goes_along = { λ number nodes. FollowsLines (λ replay. replay) KeepsNothing false number nodes.checked × IsScripting (nodes_read nodes.checked.lines) nodes.checked.follower.illegal nodes.script };
 
     ghost taken = { λ nodes. taken_of nodes.script };
 

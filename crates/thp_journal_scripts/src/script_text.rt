@@ -1,7 +1,7 @@
 //! The text of scripts: the lines of commands, and the options of `thpsplit` for them.
 ghost use Rattle.std.specs.Prelude.{◌≡◌, ◌++◌, [], ◌∷◌, OnOk};
 ghost use Rattle.std.specs.Fmt.{decimal};
-ghost use Rattle.thp_journal_writer.specs.Prelude.{line_of, underused_word};
+ghost use Rattle.thp_journal_writer.specs.Prelude.{spaced_line, underused_word};
 ghost use Rattle.thp_journal_scripts.specs.ScriptTexts.{command_line, commands_text, op_words, most_blocks, options_line, orders_text, thresholds_text};
 
 use std::alloc::AllocError;
@@ -60,7 +60,7 @@ fn put_node(text: &mut Vec<u8>, name: &[u8], node: u32) -> Result<(), AllocError
 // a name, a node, another number, and a line feed
 #[inline(always)]
 fn put_page(text: &mut Vec<u8>, name: &[u8], node: u32, page: u64) -> Result<(), AllocError>
-    ensures { OnOk result (text.new.items ≡ text.old.items ++ name.now ++ line_of (decimal node ∷ decimal page ∷ []) ++ 10 ∷ []) }
+    ensures { OnOk result (text.new.items ≡ text.old.items ++ name.now ++ spaced_line (decimal node ∷ decimal page ∷ []) ++ 10 ∷ []) }
 {
     put(text, name)?;
     put_number(text, u64::from(node), b' ')?;
@@ -77,7 +77,7 @@ fn put_range(
     first: u32,
     count: u32,
 ) -> Result<(), AllocError>
-    ensures { OnOk result (text.new.items ≡ text.old.items ++ name.now ++ line_of (decimal node ∷ decimal page ∷ decimal first ∷ decimal count ∷ []) ++ 10 ∷ []) }
+    ensures { OnOk result (text.new.items ≡ text.old.items ++ name.now ++ spaced_line (decimal node ∷ decimal page ∷ decimal first ∷ decimal count ∷ []) ++ 10 ∷ []) }
 {
     put(text, name)?;
     put_number(text, u64::from(node), b' ')?;

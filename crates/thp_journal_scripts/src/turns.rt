@@ -1,7 +1,7 @@
 //! Whether a batch tries its pages in the order in which it took them.
 ghost use Rattle.std.specs.Prelude.{◌≡◌, ◌+◌, ◌++◌, [], nat_eq, OnOk, if◌then◌else◌};
 ghost use Rattle.std.specs.List.{position};
-ghost use Rattle.thp_journal_scripts.specs.Prelude.{counted, done_page, first_of, is_out_of_turn, taken_by, tried_page, unless_done, untried_after};
+ghost use Rattle.thp_journal_scripts.specs.Prelude.{capped_count, done_page, first_untried, is_out_of_turn, taken_by, tried_page, unless_done, untried_after};
 
 use std::alloc::{AllocError, Global};
 use thp_history::{Event, Outcome, PageId, What};
@@ -36,7 +36,7 @@ impl Turns {
     /// Adds an event of the node.
     pub(crate) fn add(&mut self, event: &Event) -> Result<(), AllocError>
         ensures untried { OnOk result (self.new.untried.items ≡ untried_after self.old.untried.items event.now) }
-        ensures count { OnOk result (self.new.out_of_turn ≡ counted (self.old.out_of_turn + (if is_out_of_turn self.old.untried.items event.now then 1 else 0))) }
+        ensures count { OnOk result (self.new.out_of_turn ≡ capped_count (self.old.out_of_turn + (if is_out_of_turn self.old.untried.items event.now then 1 else 0))) }
     {
         let more = u64::from(self.is_out_of_turn(event));
         self.out_of_turn = self.out_of_turn.saturating_add(more);
@@ -63,7 +63,7 @@ impl Turns {
 
     /// Returns the first of a caller's pages.
     fn first_of(&self, caller: u32) -> Option<UntriedPage>
-        ensures { result ≡ first_of caller self.now.untried.items }
+        ensures { result ≡ first_untried caller self.now.untried.items }
     {
         self.untried
             .iter()

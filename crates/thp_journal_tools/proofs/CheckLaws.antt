@@ -4,7 +4,7 @@ use Rattle.std.specs.Io.KnownBytes.{Appends}
 use Rattle.thp_script.specs.Prelude.{max_counted, Fault, IsFrontOf}
 use Rattle.thp_script.specs.declared.fault.ReadFault.TheVariants as reading
 use Rattle.thp_script.specs.declared.fault.TextKind.{TextKind}
-use Rattle.thp_journal_writer.specs.Totals.{lines_from}
+use Rattle.thp_journal_writer.specs.Totals.{totals_lines_from}
 use Rattle.thp_journal_reader.specs.declared.long_check.Illegal.{Illegal}
 use Rattle.thp_journal_reader.specs.declared.journals.ReadNode.{ReadNode}
 use Rattle.thp_journal_tools.specs.declared.checking.Summed.{Summed}
@@ -18,7 +18,7 @@ use Rattle.thp_cli.specs.declared.fault.RunFault.{RunFault}
 use Rattle.thp_cli.specs.declared.fault.RunFault.TheVariants.{Text, OutOfMemory, Read, Write}
 use Rattle.thp_cli.specs.Prelude.{WritesFront, WritesAnswer, fault_of_long_read, IsReadingFault}
 use Rattle.thp_cli.proofs.PassageLaws.{ends_cut, ends_early, ends_written, keeps_same}
-use Rattle.thp_journal_tools.specs.Checks.{line_of, IsCheckOf, IsFindFault, IsFound, LongEnds}
+use Rattle.thp_journal_tools.specs.Checks.{line_of_illegal, IsCheckOf, IsFindFault, IsFound, LongEnds}
 use Rattle.thp_journal_tools.specs.declared.program.CheckOptions.{CheckOptions}
 
 -- ---- what is found
@@ -43,38 +43,38 @@ err_at_reading known failed fault (Err e) is reading =
 module _ (known : Option (List ℕ)) (bytes : List ℕ) (read : IfSome known (IsFrontOf max_counted bytes)) (failed : Bool) (same : failed ≡ false) where
   -- the text is at fault
   pub err_at_text : {A : Type 0} (line : ℕ) (kind : TextKind) (r : Result A (RunFault ℕ)) → IsErrAnd r (λ e. e ≡ Text line kind) → journals_within max_counted bytes ≡ Err (line, kind) → IfErr r (λ e. IsFindFault known failed e)
-  err_at_text line kind (Ok found) is told = absurd is
-  err_at_text line kind (Err e) is told =
+  err_at_text line kind (Ok found) is reported = absurd is
+  err_at_text line kind (Err e) is reported =
       let P : RunFault ℕ → Type 0 = λ f. IsFindFault known failed f in
-      subst P (sym is) (bytes, read, told, same)
+      subst P (sym is) (bytes, read, reported, same)
 
   -- or memory for the last totals was refused
   pub err_at_summary : {A : Type 0} (fault : LongReadFault) (r : Result A (RunFault ℕ)) → IsErrAnd r (λ e. e ≡ fault_of_long_read fault) → ReportsLongReadFault (journals_within max_counted bytes) fault → IfErr r (λ e. IsFindFault known failed e)
-  err_at_summary (summary.Text fault) r is told = err_at_text fault.line fault.kind r is told
-  err_at_summary summary.OutOfMemory (Ok found) is told = absurd is
-  err_at_summary summary.OutOfMemory (Err e) is told =
+  err_at_summary (summary.Text fault) r is reported = err_at_text fault.line fault.kind r is reported
+  err_at_summary summary.OutOfMemory (Ok found) is reported = absurd is
+  err_at_summary summary.OutOfMemory (Err e) is reported =
       let P : RunFault ℕ → Type 0 = λ f. IsFindFault known failed f in
       subst P (sym is) same
 
 -- ---- the verdict
 
--- what the first illegal event tells, its line tells
-line_told : (nodes : List ReadNode) (illegal : Option Illegal) → ReportsFirst nodes illegal → ReportsIllegal nodes (line_of illegal)
-line_told nodes None first = first
-line_told nodes (Some illegal) first = first.line
+-- what the first illegal event reports, its line reports
+line_reported : (nodes : List ReadNode) (illegal : Option Illegal) → ReportsFirst nodes illegal → ReportsIllegal nodes (line_of_illegal illegal)
+line_reported nodes None first = first
+line_reported nodes (Some illegal) first = first.line
 
 -- the verdict is that of the journals that were found, and their totals stand behind it
-pub check_of : (options : CheckOptions) (bytes text : List ℕ) (found : Summed) → IsFound options.summary bytes found → text ≡ verdict_text (line_of found.illegal) ++ lines_from 0 found.totals.items → IsCheckOf options bytes found.illegal text
+pub check_of : (options : CheckOptions) (bytes text : List ℕ) (found : Summed) → IsFound options.summary bytes found → text ≡ verdict_text (line_of_illegal found.illegal) ++ totals_lines_from 0 found.totals.items → IsCheckOf options bytes found.illegal text
 check_of options bytes text found is written =
-    let told = line_told is.journals.nodes found.illegal is.first in
+    let reported = line_reported is.journals.nodes found.illegal is.first in
     record {
-      front = verdict_text (line_of found.illegal);
+      front = verdict_text (line_of_illegal found.illegal);
       verdict = record {
         journals = is.journals;
         spelled = is.spelled;
-        illegal = line_of found.illegal;
-        told = told;
-        free_choice = λ can. free_choice max_counted bytes is.journals (line_of found.illegal) is.spelled told is.journals is.spelled can;
+        illegal = line_of_illegal found.illegal;
+        reported = reported;
+        free_choice = λ can. free_choice max_counted bytes is.journals (line_of_illegal found.illegal) is.spelled reported is.journals is.spelled can;
         answer = refl;
         written = refl;
       };
@@ -89,7 +89,7 @@ check_of_input options input bytes text illegal read c =
     let v = c.verdict in
     record {
       front = c.front;
-      verdict = record { journals = v.journals; spelled = sym (same_journals max_counted input bytes read) ∙ v.spelled; illegal = v.illegal; told = v.told; free_choice = v.free_choice; answer = v.answer; written = v.written };
+      verdict = record { journals = v.journals; spelled = sym (same_journals max_counted input bytes read) ∙ v.spelled; illegal = v.illegal; reported = v.reported; free_choice = v.free_choice; answer = v.answer; written = v.written };
       first = c.first;
       totals = c.totals;
       totals_are = c.totals_are;
@@ -120,11 +120,11 @@ module _ {A : Type 0} (IsAnswer : List ℕ → A → List ℕ → Type 0) (of_in
         ends_cut max_counted IsAnswer HasFault of_input (fault_of_journal max_counted) known bytes read old new rf wf x text r answer (rw none at cut) e (rw none at failed) is
 
     -- the text was written
-    pub ends_told : (old new : Option (List ℕ)) (reader_failed writer_failed : Bool) (x : A) (text : List ℕ) (o : Option (Unit {0})) (u : Unit {0}) → IsAnswer bytes x text → ok_or o at_writer ≡ Ok u
+    pub ends_reported : (old new : Option (List ℕ)) (reader_failed writer_failed : Bool) (x : A) (text : List ℕ) (o : Option (Unit {0})) (u : Unit {0}) → IsAnswer bytes x text → ok_or o at_writer ≡ Ok u
         → IfSome o (λ _. Appends old new text) → IfSome o (λ _. writer_failed ≡ false) → reader_failed ≡ false → LongEnds IsAnswer known old new reader_failed writer_failed (Ok x)
-    ends_told old new rf wf x text (Some v) u answer some done flag e =
+    ends_reported old new rf wf x text (Some v) u answer some done flag e =
         ends_written max_counted IsAnswer HasFault of_input (fault_of_journal max_counted) known bytes read old new rf wf x text (Ok x) answer done e flag refl
-    ends_told old new rf wf x text None u answer some done flag e = absurd cc
+    ends_reported old new rf wf x text None u answer some done flag e = absurd cc
 
 -- no call of the writer was made
 pub none_at_find : {A : Type 0} (known : Option (List ℕ)) (r : Result A (RunFault ℕ)) (reader_failed writer_failed : Bool) (fault : RunFault ℕ) (calls : List DeviceCall) → IsFindFault known reader_failed fault → r ≡ Err fault → WritesAnswer r writer_failed calls calls
@@ -133,7 +133,7 @@ none_at_find known r rf wf OutOfMemory calls why is = rw is refl
 none_at_find known r rf wf Read calls why is = rw is refl
 none_at_find known r rf wf Write calls why is = absurd why
 
--- a writer that failed is told as that
+-- a writer that failed is reported as that
 pub cut_from : (o : Option (Unit {0})) (fault : RunFault ℕ) → ok_or o Write ≡ Err fault → (o ≡ None) × (Write ≡ fault)
 cut_from (Some u) fault e = absurd cc
 cut_from None fault e = (refl, cc)

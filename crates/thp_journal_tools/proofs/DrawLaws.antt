@@ -16,13 +16,13 @@ use Rattle.thp_script.specs.Prelude.{max_counted, IsFrontOf}
 use Rattle.thp_journal_reader.proofs.VerdictLaws.{same_journals}
 use Rattle.thp_journal_tools.specs.declared.draw_program.DrawOptions.{DrawOptions}
 use Rattle.thp_journal_tools.specs.Checks.{IsFindFault}
-use Rattle.thp_journal_tools.specs.Drawings.{Draws, IsDrawingOf, IsFound, LacksNode, Shows}
-use Rattle.thp_journal_tools.specs.DrawOutcomes.{Does, IsOutputFault}
+use Rattle.thp_journal_tools.specs.Drawings.{AreDrawn, Draws, IsDrawingOf, LacksNode, Shows}
+use Rattle.thp_journal_tools.specs.DrawOutcomes.{DrawIsDone, IsOutputFault}
 use Rattle.thp_journal_tools.specs.Nodes.{IsDrawnOf}
-use Rattle.thp_journal_tools.proofs.CheckLaws.{at_writer, ends_at_find, ends_at_write, ends_told, none_at_find}
+use Rattle.thp_journal_tools.proofs.CheckLaws.{at_writer, ends_at_find, ends_at_write, ends_reported, none_at_find}
 
 -- the text of what was found
-pub drawing_of : (options : DrawOptions) (bytes text : List ℕ) (nodes : List DrawnNode) (ending : Ending) → IsFound bytes nodes → Shows options.table options.node nodes ending text → IsDrawingOf options bytes ending text
+pub drawing_of : (options : DrawOptions) (bytes text : List ℕ) (nodes : List DrawnNode) (ending : Ending) → AreDrawn bytes nodes → Shows options.table options.node nodes ending text → IsDrawingOf options bytes ending text
 drawing_of options bytes text nodes ending found shown = record { journals = found.journals; spelled = found.spelled; nodes = nodes; drawn = found.drawn; shown = shown }
 
 -- what is drawn of what was read is drawn of the whole input
@@ -39,7 +39,7 @@ same_length [] (d ∷ drawn) are = absurd are
 same_length (n ∷ nodes) [] are = absurd are
 same_length (n ∷ nodes) (d ∷ drawn) are = ap suc (same_length nodes drawn are.1)
 
-lacks_in : (known : Option (List ℕ)) (bytes : List ℕ) (nodes : List DrawnNode) (number : ℕ) → IfSome known (IsFrontOf max_counted bytes) → IsFound bytes nodes → length nodes ≤ number → IfSome known (λ input. LacksNode input number)
+lacks_in : (known : Option (List ℕ)) (bytes : List ℕ) (nodes : List DrawnNode) (number : ℕ) → IfSome known (IsFrontOf max_counted bytes) → AreDrawn bytes nodes → length nodes ≤ number → IfSome known (λ input. LacksNode input number)
 lacks_in None bytes nodes number read found few = tt
 lacks_in (Some input) bytes nodes number read found few = record {
   journals = found.journals;
@@ -59,8 +59,8 @@ module _ (options : DrawOptions) (input : Source) (reads : ReadsOn max_counted i
     writes = none_at_find {A = Ending} input.bytes (Err fault) input.failed failed fault calls why refl;
   }
 
-  pub no_output : (bytes : List ℕ) (nodes : List DrawnNode) → IfSome input.bytes (IsFrontOf max_counted bytes) → IsFound bytes nodes → input.failed ≡ false
-      → (fault : ProgramFault) → IsOutputFault options.node nodes fault → Does options input (same_device content failed calls) (Err fault)
+  pub no_output : (bytes : List ℕ) (nodes : List DrawnNode) → IfSome input.bytes (IsFrontOf max_counted bytes) → AreDrawn bytes nodes → input.failed ≡ false
+      → (fault : ProgramFault) → IsOutputFault options.node nodes fault → DrawIsDone options input (same_device content failed calls) (Err fault)
   no_output bytes nodes read found done (Run fault) why = rw why (none_found run.OutOfMemory done)
   no_output bytes nodes read found done (NoNode number) why =
       record { asked = why.0; lacks = lacks_in input.bytes bytes nodes number read found why.1; flag = done; reads = reads; untouched = (keeps_same content, flag, refl) }
@@ -72,7 +72,7 @@ module _ (options : DrawOptions) (input : Source) (reads : ReadsOn max_counted i
 -- ---- the text was written, or a prefix of it
 
 module _ (options : DrawOptions) (input : Source) (output : Device) (reads : ReadsOn max_counted input.failed input.called input.calls) (done : input.failed ≡ false) (bytes text : List ℕ) (nodes : List DrawnNode) (ending : Ending) where
-  module _ (read : IfSome input.bytes (IsFrontOf max_counted bytes)) (found : IsFound bytes nodes) (shown : Shows options.table options.node nodes ending text) (writes : WritesOn output.failed output.called output.calls) (o : Option (Unit {0})) where
+  module _ (read : IfSome input.bytes (IsFrontOf max_counted bytes)) (found : AreDrawn bytes nodes) (shown : Shows options.table options.node nodes ending text) (writes : WritesOn output.failed output.called output.calls) (o : Option (Unit {0})) where
     pub cut : o ≡ None → IfNone o (WritesFront output.before output.after text) → IfNone o (output.failed ≡ true) → Draws options input output (Err run.Write)
     cut none front failed = record {
       ends = ends_at_write (IsDrawingOf options) (drawing_of_input options) input.bytes bytes read output.before output.after input.failed output.failed ending text o (Err run.Write) (drawing_of options bytes text nodes ending found shown) none front failed done refl;
@@ -82,7 +82,7 @@ module _ (options : DrawOptions) (input : Source) (output : Device) (reads : Rea
 
     pub drawn : (u : Unit {0}) → ok_or o at_writer ≡ Ok u → IfSome o (λ _. Appends output.before output.after text) → IfSome o (λ _. output.failed ≡ false) → Draws options input output (Ok ending)
     drawn u some appends flag = record {
-      ends = ends_told (IsDrawingOf options) (drawing_of_input options) input.bytes bytes read output.before output.after input.failed output.failed ending text o u (drawing_of options bytes text nodes ending found shown) some appends flag done;
+      ends = ends_reported (IsDrawingOf options) (drawing_of_input options) input.bytes bytes read output.before output.after input.failed output.failed ending text o u (drawing_of options bytes text nodes ending found shown) some appends flag done;
       reads = reads;
       writes = writes;
     }
@@ -90,6 +90,6 @@ module _ (options : DrawOptions) (input : Source) (output : Device) (reads : Rea
 -- ---- the end
 
 -- an error ends it
-pub does_err : (options : DrawOptions) (input : Source) (output : Device) (fault : ProgramFault) (r : Result Ending ProgramFault) → IsErrAnd r (λ e. e ≡ fault) → Does options input output (Err fault) → Does options input output r
+pub does_err : (options : DrawOptions) (input : Source) (output : Device) (fault : ProgramFault) (r : Result Ending ProgramFault) → IsErrAnd r (λ e. e ≡ fault) → DrawIsDone options input output (Err fault) → DrawIsDone options input output r
 does_err options input output fault (Ok ending) is does = absurd is
-does_err options input output fault (Err e) is does = subst (λ (f : ProgramFault). Does options input output (Err f)) (sym is) does
+does_err options input output fault (Err e) is does = subst (λ (f : ProgramFault). DrawIsDone options input output (Err f)) (sym is) does

@@ -4,8 +4,8 @@ use Rattle.thp_drawing.specs.declared.node.IllegalEvent.{IllegalEvent}
 use Rattle.thp_drawing.specs.declared.node.DrawnNode.{DrawnNode}
 use Rattle.thp_journal_reader.specs.declared.long_check.Illegal.{Illegal}
 use Rattle.thp_journal_reader.specs.declared.journals.ReadNode.{ReadNode}
-use Rattle.thp_journal_reader.specs.Prelude.{IsFirstIllegalEvent, IsKept, ReportsFirst}
-use Rattle.thp_journal_tools.specs.Keeping.{told_of, KeepsDrawing}
+use Rattle.thp_journal_reader.specs.Prelude.{IsFirstIllegalEvent, IsStored, ReportsFirst}
+use Rattle.thp_journal_tools.specs.Keeping.{illegal_event_of, KeepsDrawing}
 use Rattle.thp_journal_tools.specs.Nodes.{IsDrawnOf, IsOwnIllegal, ReportsOwn}
 
 -- ---- illegal events
@@ -19,12 +19,12 @@ own_illegal node illegal first =
     let P : ReadNode → Type 0 = λ n. IsOwnIllegal n (record { line = illegal.line; event = illegal.event }) in
     subst P (sym (own_of_one node illegal first.line.place first.line.node first.line.here)) (record { first = first.line.first; event_is = first.event })
 
-pub own_of : (node : ReadNode) (illegal : Option Illegal) → ReportsFirst (node ∷ []) illegal → ReportsOwn node (told_of illegal)
+pub own_of : (node : ReadNode) (illegal : Option Illegal) → ReportsFirst (node ∷ []) illegal → ReportsOwn node (illegal_event_of illegal)
 own_of node x legal = grind (arith, own_illegal)
 
 -- ---- nodes
 
-pub as_drawn : (node : ReadNode) (kept : DrawnNode) → IsKept KeepsDrawing node kept → IsDrawnOf node kept
+pub as_drawn : (node : ReadNode) (kept : DrawnNode) → IsStored KeepsDrawing node kept → IsDrawnOf node kept
 as_drawn node kept is =
     let T : Option IllegalEvent → Type 0 = λ i. ReportsOwn node i in
     let k = is.kept_is in

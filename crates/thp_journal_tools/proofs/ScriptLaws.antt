@@ -4,7 +4,7 @@ use Rattle.std.specs.Io.KnownBytes.{Appends, Keeps}
 use Rattle.thp_cli.specs.declared.fault.RunFault.{RunFault}
 use Rattle.thp_cli.specs.declared.fault.RunFault.TheVariants.{Text, OutOfMemory, Read, Write}
 use Rattle.thp_cli.specs.Prelude.{WritesFront, fault_of_long_read}
-use Rattle.thp_journal_tools.specs.Scripting.{Grows, IsDeviceFault, IsScriptEnd}
+use Rattle.thp_journal_tools.specs.Scripting.{IsDeviceFault, IsScriptEnd, WriterGrows}
 use Rattle.thp_journal_scripts.specs.declared.script_check.Scripted.{Scripted}
 use Rattle.thp_script.specs.Prelude.{max_counted, IsFrontOf}
 use Rattle.thp_script.specs.declared.fault.LongReadFault.{LongReadFault}
@@ -13,20 +13,20 @@ use Rattle.thp_journal_reader.specs.Prelude.{journals_within, ReportsLongReadFau
 
 -- ---- a writer that takes texts
 
-pub grows_none : (a : Option (List ℕ)) → Grows a a
+pub grows_none : (a : Option (List ℕ)) → WriterGrows a a
 grows_none None = ([], tt)
 grows_none (Some xs) = ([], sym (append-nil xs))
 
-pub grows_more : (a b c : Option (List ℕ)) → Grows a b → Grows b c → Grows a c
+pub grows_more : (a b c : Option (List ℕ)) → WriterGrows a b → WriterGrows b c → WriterGrows a c
 grows_more None b c h k = ([], tt)
 grows_more (Some xs) None c h k = absurd h.1
 grows_more (Some xs) (Some ys) None h k = absurd k.1
 grows_more (Some xs) (Some ys) (Some zs) h k = (h.0 ++ k.0, rw (k.1, h.1) (append_assoc xs h.0 k.0))
 
-pub grows_cut : (a b : Option (List ℕ)) (text : List ℕ) → WritesFront a b text → Grows a b
+pub grows_cut : (a b : Option (List ℕ)) (text : List ℕ) → WritesFront a b text → WriterGrows a b
 grows_cut a b text cut = (cut.front, cut.written)
 
-pub grows_kept : (a b : Option (List ℕ)) → Keeps a b → Grows a b
+pub grows_kept : (a b : Option (List ℕ)) → Keeps a b → WriterGrows a b
 grows_kept None b k = ([], tt)
 grows_kept (Some xs) None k = absurd k
 grows_kept (Some xs) (Some ys) k = ([], k ∙ sym (append-nil xs))
@@ -54,7 +54,7 @@ four_texts o a b c d first second third fourth =
     rw (fourth, third, second, first) (ap (λ x. (x ++ c) ++ d) (append_assoc o a b) ∙ ap (λ x. x ++ d) (append_assoc o (a ++ b) c) ∙ append_assoc o ((a ++ b) ++ c) d)
 
 -- a text was written, or a prefix of it
-pub grows_by : (a b : Option (List ℕ)) (text : List ℕ) (o : Option (Unit {0})) → IfSome o (λ _. Appends a b text) → IfNone o (WritesFront a b text) → Grows a b
+pub grows_by : (a b : Option (List ℕ)) (text : List ℕ) (o : Option (Unit {0})) → IfSome o (λ _. Appends a b text) → IfNone o (WritesFront a b text) → WriterGrows a b
 grows_by a b text (Some u) done cut = (text, done)
 grows_by a b text None done cut = grows_cut a b text cut
 
@@ -69,9 +69,9 @@ abbrev at_writer : RunFault ℕ
 at_writer = Write
 
 -- a writer that took the text has not failed
-pub told_from : (o : Option (Unit {0})) (u : Unit {0}) (P : Type 0) → ok_or o at_writer ≡ Ok u → IfSome o (λ _. P) → P
-told_from (Some v) u P e some = some
-told_from None u P e some = absurd cc
+pub reported_from : (o : Option (Unit {0})) (u : Unit {0}) (P : Type 0) → ok_or o at_writer ≡ Ok u → IfSome o (λ _. P) → P
+reported_from (Some v) u P e some = some
+reported_from None u P e some = absurd cc
 
 -- a writer that did not is reported as that
 pub cut_end : {A : Type 0} (o : Option (Unit {0})) (fault : RunFault ℕ) (r : Result A (RunFault ℕ)) (wf : Bool) → ok_or o Write ≡ Err fault → IfNone o (wf ≡ true) → IsErrAnd r (λ e. e ≡ fault) → IfErr r (λ e. IsDeviceFault false wf e)
@@ -98,8 +98,8 @@ is_err (Err e) P is = tt
 -- the journal has an error, or memory could not be allocated
 pub end_at_finish : (known old new : Option (List ℕ)) (bytes : List ℕ) → IfSome known (IsFrontOf max_counted bytes) → (rf wf : Bool) → rf ≡ false → wf ≡ false → (fault : LongReadFault) (r : Result Scripted (RunFault ℕ))
     → IsErrAnd r (λ e. e ≡ fault_of_long_read fault) → ReportsLongReadFault (journals_within max_counted bytes) fault → IsScriptEnd known old new rf wf r
-end_at_finish known old new bytes read rf wf no_read no_write fault (Ok found) is told = absurd is
-end_at_finish known old new bytes read rf wf no_read no_write (summary.Text fault) (Err e) is told =
-    subst (λ (f : RunFault ℕ). IsScriptEnd known old new rf wf (Err f)) (sym is) ((bytes, read, told), no_read, no_write)
-end_at_finish known old new bytes read rf wf no_read no_write summary.OutOfMemory (Err e) is told =
+end_at_finish known old new bytes read rf wf no_read no_write fault (Ok found) is reported = absurd is
+end_at_finish known old new bytes read rf wf no_read no_write (summary.Text fault) (Err e) is reported =
+    subst (λ (f : RunFault ℕ). IsScriptEnd known old new rf wf (Err f)) (sym is) ((bytes, read, reported), no_read, no_write)
+end_at_finish known old new bytes read rf wf no_read no_write summary.OutOfMemory (Err e) is reported =
     subst (λ (f : RunFault ℕ). IsScriptEnd known old new rf wf (Err f)) (sym is) (no_read, no_write)

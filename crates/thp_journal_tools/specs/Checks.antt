@@ -8,18 +8,18 @@ use Rattle.thp_journal_reader.specs.declared.journals.ReadNode.{ReadNode}
 use Rattle.thp_journal_tools.specs.declared.checking.Summed.{Summed}
 use Rattle.thp_journal_reader.specs.Prelude.{ReportsFirst, journals_within, is_legal, IsVerdictWithin}
 use Rattle.thp_journal_tools.specs.Summaries.{AreSummaries}
-use Rattle.thp_journal_writer.specs.Totals.{lines_from}
+use Rattle.thp_journal_writer.specs.Totals.{totals_lines_from}
 use Rattle.thp_journal_writer.specs.declared.totals.Totals.{Totals}
 use Rattle.thp_cli.specs.declared.fault.RunFault.{RunFault}
 use Rattle.thp_cli.specs.declared.fault.RunFault.TheVariants.{Text, OutOfMemory, Read, Write}
-use Rattle.thp_cli.specs.Prelude.{ReadsOn, Device, Source, Ends, WritesAnswer}
+use Rattle.thp_cli.specs.Prelude.{ReadsOn, Device, Source, PassageEnds, WritesAnswer}
 use Rattle.thp_journal_tools.specs.declared.checking.CheckFinding.{CheckFinding}
 use Rattle.thp_journal_tools.specs.declared.program.CheckOptions.{CheckOptions}
 
 -- the line of an illegal event
-abbrev pub line_of : Option Illegal → Option ℕ
-line_of None = None
-line_of (Some illegal) = Some illegal.line
+abbrev pub line_of_illegal : Option Illegal → Option ℕ
+line_of_illegal None = None
+line_of_illegal (Some illegal) = Some illegal.line
 
 -- the explanation of the first illegal event, if it is requested
 abbrev pub explanation_of : CheckOptions → Option Illegal → Option (List ℕ)
@@ -33,11 +33,11 @@ AreTotals true nodes totals = AreSummaries nodes totals
 -- the text is the verdict on a journal, followed by the totals if they are requested; and this is its first illegal event
 pub record IsCheckOf (options : CheckOptions) (input : List ℕ) (illegal : Option Illegal) (text : List ℕ) : Type 0 where
   pub front : List ℕ
-  pub verdict : IsVerdictWithin max_counted input (is_legal (line_of illegal)) front
+  pub verdict : IsVerdictWithin max_counted input (is_legal (line_of_illegal illegal)) front
   pub first : ReportsFirst verdict.journals.nodes illegal
   pub totals : List Totals
   pub totals_are : AreTotals options.summary verdict.journals.nodes totals
-  pub text_is : text ≡ front ++ lines_from 0 totals
+  pub text_is : text ≡ front ++ totals_lines_from 0 totals
 
 -- the result for the text of a journal is right
 pub record IsFound (summary : Bool) (bytes : List ℕ) (found : Summed) : Type 0 where
@@ -60,14 +60,14 @@ found_in (Err fault) = Err fault
 
 -- how the reading of a journal of any length ends: with a result, or with the first error of the journal
 abbrev pub LongEnds : {A : Type 0} → (List ℕ → A → List ℕ → Type 0) → Option (List ℕ) → Option (List ℕ) → Option (List ℕ) → Bool → Bool → Result A (RunFault ℕ) → Type 0
-LongEnds IsAnswer = Ends IsAnswer (λ bytes fault. journals_within max_counted bytes ≡ Err fault)
+LongEnds IsAnswer = PassageEnds IsAnswer (λ bytes fault. journals_within max_counted bytes ≡ Err fault)
 
 -- how the check of a journal ends: with its verdict, or with the first error of the journal
-abbrev pub CheckEnds : CheckOptions → Option (List ℕ) → Option (List ℕ) → Option (List ℕ) → Bool → Bool → Result (Option Illegal) (RunFault ℕ) → Type 0
-CheckEnds options = LongEnds (IsCheckOf options)
+abbrev pub JournalCheckEnds : CheckOptions → Option (List ℕ) → Option (List ℕ) → Option (List ℕ) → Bool → Bool → Result (Option Illegal) (RunFault ℕ) → Type 0
+JournalCheckEnds options = LongEnds (IsCheckOf options)
 
 -- the check ended like this: with the first illegal event, or none
-pub record Checks (options : CheckOptions) (input : Source) (output : Device) (result : Result (Option Illegal) (RunFault ℕ)) : Type 0 where
-  pub ends : CheckEnds options input.bytes output.before output.after input.failed output.failed result
+pub record JournalIsChecked (options : CheckOptions) (input : Source) (output : Device) (result : Result (Option Illegal) (RunFault ℕ)) : Type 0 where
+  pub ends : JournalCheckEnds options input.bytes output.before output.after input.failed output.failed result
   pub reads : ReadsOn max_counted input.failed input.called input.calls
   pub writes : WritesAnswer result output.failed output.called output.calls

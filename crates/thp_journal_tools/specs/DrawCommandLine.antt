@@ -17,11 +17,11 @@ abbrev pub thpdraw : App
 thpdraw = with_rule (with_rule (with_rule (bare_app (codes "thpdraw")) (flag_rule (codes "table"))) node_rule) (flag_rule (codes "progress"))
 
 -- the options are those of the matches
-pub record HoldsOptions (matches : List Row) (options : DrawOptions) : Type 0 where
+pub record HoldsDrawOptions (matches : List Row) (options : DrawOptions) : Type 0 where
   pub table : ReportsFlag (one_of (codes "table") matches) options.table
   pub node : ReportsNumber (one_of (codes "node") matches) options.node
   pub progress : ReportsFlag (one_of (codes "progress") matches) options.progress
 
 -- the options are those of the words
-abbrev pub AnswersWords : List (List ℕ) → Result DrawOptions Error → Type 0
-AnswersWords = ReadsWords thpdraw HoldsOptions
+abbrev pub AnswersDrawWords : List (List ℕ) → Result DrawOptions Error → Type 0
+AnswersDrawWords = ReadsWords thpdraw HoldsDrawOptions

@@ -17,16 +17,16 @@ IsOutputFault asked nodes (NoNode number) = (asked ≡ Some number) × (length n
 IsOutputFault asked nodes _ = ⊥
 
 -- what was done with the journal, by how it ended
-abbrev pub Does : DrawOptions → Source → Device → Result Ending ProgramFault → Type 0
-Does options input output (Ok ending) = Draws options input output (Ok ending)
-Does options input output (Err (Run fault)) = Draws options input output (Err fault)
-Does options input output (Err (NoNode number)) = FindsNoNode options input output number
-Does options input output (Err _) = ⊥
+abbrev pub DrawIsDone : DrawOptions → Source → Device → Result Ending ProgramFault → Type 0
+DrawIsDone options input output (Ok ending) = Draws options input output (Ok ending)
+DrawIsDone options input output (Err (Run fault)) = Draws options input output (Err fault)
+DrawIsDone options input output (Err (NoNode number)) = FindsNoNode options input output number
+DrawIsDone options input output (Err _) = ⊥
 
 -- the same, and there is no text for standard error
-abbrev pub DoesRequest : DrawOptions → Source → Device → Result Ending ProgramFault → Option (List ℕ) → Type 0
-DoesRequest options input output result notes = Does options input output result × (notes ≡ None)
+abbrev pub DoesDrawRequest : DrawOptions → Source → Device → Result Ending ProgramFault → Option (List ℕ) → Type 0
+DoesDrawRequest options input output result notes = DrawIsDone options input output result × (notes ≡ None)
 
 -- the progress may be shown
-abbrev pub shows_progress : DrawOptions → Bool → Bool
-shows_progress options is_terminal = may_show options.progress is_terminal
+abbrev pub shows_draw_progress : DrawOptions → Bool → Bool
+shows_draw_progress options is_terminal = may_show options.progress is_terminal

@@ -42,7 +42,7 @@ pub record IsDrawingOf (options : DrawOptions) (input : List ℕ) (ending : Endi
   pub shown : Shows options.table options.node nodes ending text
 
 -- the drawings of the nodes in these bytes
-pub record IsFound (bytes : List ℕ) (nodes : List DrawnNode) : Type 0 where
+pub record AreDrawn (bytes : List ℕ) (nodes : List DrawnNode) : Type 0 where
   pub journals : ReadJournals
   pub spelled : journals_within max_counted bytes ≡ Ok journals
   pub drawn : AreDrawnOf journals.nodes nodes

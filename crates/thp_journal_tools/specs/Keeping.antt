@@ -20,16 +20,16 @@ abbrev pub LeavesTotals : Replayed → Totals → Type 0
 LeavesTotals before totals = totals ≡ totals_of before.shape before.history
 
 -- the line and the event of the first illegal event
-abbrev pub told_of : Option Illegal → Option IllegalEvent
-told_of None = None
-told_of (Some illegal) = Some (record { line = illegal.line; event = illegal.event })
+abbrev pub illegal_event_of : Option Illegal → Option IllegalEvent
+illegal_event_of None = None
+illegal_event_of (Some illegal) = Some (record { line = illegal.line; event = illegal.event })
 
 -- what is drawn: the numbers, and the illegal event
 pub record KeepsDrawing (shape : Shape) (front : History) (illegal : Option Illegal) (kept : DrawnNode) : Type 0 where
   pub shape_is : kept.shape ≡ shape
   pub columns_are : AreColumnsOf (series shape front) kept
   pub last_is : kept.last ≡ numbers_at shape front
-  pub illegal_is : kept.illegal ≡ told_of illegal
+  pub illegal_is : kept.illegal ≡ illegal_event_of illegal
   pub stuck_are : AreStuck shape front kept.stuck.items
 
 pub record LeavesNumbers (before : Replayed) (rest : Shape × SeriesEnd) : Type 0 where

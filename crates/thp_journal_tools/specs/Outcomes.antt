@@ -7,7 +7,7 @@ use Rattle.thp_cli.specs.declared.ending.ProgramFault.{ProgramFault}
 use Rattle.thp_cli.specs.declared.ending.ProgramFault.TheVariants.{Run}
 use Rattle.thp_cli.specs.Prelude.{Device, Source}
 use Rattle.thp_journal_tools.specs.declared.program.CheckOptions.{CheckOptions}
-use Rattle.thp_journal_tools.specs.Checks.{explanation_of, Checks}
+use Rattle.thp_journal_tools.specs.Checks.{explanation_of, JournalIsChecked}
 use Rattle.thp_journal_scripts.specs.declared.script_check.Scripted.{Scripted}
 use Rattle.thp_journal_tools.specs.Progress.{may_show}
 use Rattle.thp_journal_tools.specs.Scripting.{notes_of, Scripts}
@@ -20,15 +20,15 @@ ending_of (Some illegal) = IsIllegal
 -- the journal was checked, and this is the explanation to write
 pub record DidEnd (options : CheckOptions) (input : Source) (output : Device) (ending : Ending) (explanation : Option (List ℕ)) : Type 0 where
   pub illegal : Option Illegal
-  pub checks : Checks options input output (Ok illegal)
+  pub checks : JournalIsChecked options input output (Ok illegal)
   pub ending_is : ending ≡ ending_of illegal
   pub explanation_is : explanation ≡ explanation_of options illegal
 
 -- what was done with the journal, by how it ended
-abbrev pub Does : CheckOptions → Source → Device → Result Ending ProgramFault → Option (List ℕ) → Type 0
-Does options input output (Ok ending) explanation = DidEnd options input output ending explanation
-Does options input output (Err (Run fault)) explanation = Checks options input output (Err fault) × (explanation ≡ None)
-Does options input output (Err _) explanation = ⊥
+abbrev pub CheckIsDone : CheckOptions → Source → Device → Result Ending ProgramFault → Option (List ℕ) → Type 0
+CheckIsDone options input output (Ok ending) explanation = DidEnd options input output ending explanation
+CheckIsDone options input output (Err (Run fault)) explanation = JournalIsChecked options input output (Err fault) × (explanation ≡ None)
+CheckIsDone options input output (Err _) explanation = ⊥
 
 -- a script was written, and this is the text for standard error
 pub record DidScript (options : CheckOptions) (input : Source) (output : Device) (ending : Ending) (notes : Option (List ℕ)) : Type 0 where
@@ -45,7 +45,7 @@ DoesScript options input output (Err _) notes = ⊥
 
 -- what was done with the journal, by whether its script is requested
 abbrev pub DoesAsked : Bool → CheckOptions → Source → Device → Result Ending ProgramFault → Option (List ℕ) → Type 0
-DoesAsked false = Does
+DoesAsked false = CheckIsDone
 DoesAsked true = DoesScript
 
 -- what was done with the journal as the options request

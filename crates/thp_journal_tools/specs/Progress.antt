@@ -49,16 +49,16 @@ last_removed (line ∷ lines) = removal
 -- ---- a screen
 
 -- a call succeeded
-abbrev pub IsAnswered : DeviceCall → Type 0
-IsAnswered c = is_answered c ≡ true
+abbrev pub CallSucceeded : DeviceCall → Type 0
+CallSucceeded c = is_answered c ≡ true
 
 -- each call succeeded, except the last if the device failed: none is tried again
 abbrev pub AreAnswered : Bool → List DeviceCall → List DeviceCall → Type 0
-AreAnswered false old new = (more : List DeviceCall) × (new ≡ old ++ more) × All IsAnswered more
-AreAnswered true old new = (more : List DeviceCall) × (last : DeviceCall) × (new ≡ old ++ (more ++ last ∷ [])) × All IsAnswered more × ¬ (IsAnswered last)
+AreAnswered false old new = (more : List DeviceCall) × (new ≡ old ++ more) × All CallSucceeded more
+AreAnswered true old new = (more : List DeviceCall) × (last : DeviceCall) × (new ≡ old ++ (more ++ last ∷ [])) × All CallSucceeded more × ¬ (CallSucceeded last)
 
 -- the device took a text, or a prefix of it if it failed
-pub record Took (w : Device) (text : List ℕ) : Type 0 where
+pub record DeviceTook (w : Device) (text : List ℕ) : Type 0 where
   pub bytes : MatchBool w.failed (WritesFront w.before w.after text) (Appends w.before w.after text)
   pub calls : AreAnswered w.failed w.called w.calls
 
@@ -66,7 +66,7 @@ pub record Took (w : Device) (text : List ℕ) : Type 0 where
 pub record ShowsLines (program : Program) (input : Option (List ℕ)) (screen : Device) : Type 0 where
   pub lines : List Reached
   pub reached : IfSome input (λ text. All (IsReached text) lines)
-  pub took : Took screen (progress_text program lines ++ last_removed lines)
+  pub took : DeviceTook screen (progress_text program lines ++ last_removed lines)
 
 -- the output to a screen if progress may be shown; nothing otherwise
 abbrev pub ShowsProgress : Program → Bool → Option (List ℕ) → Device → Type 0

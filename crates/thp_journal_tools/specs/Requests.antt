@@ -9,7 +9,7 @@ use Rattle.thp_cli.specs.declared.ending.ProgramFault.{ProgramFault}
 use Rattle.thp_cli.specs.declared.ending.ProgramFault.TheVariants.{NoText}
 use Rattle.thp_cli.specs.declared.ending.WordsFault.{WordsFault}
 use Rattle.thp_cli.specs.declared.ending.WordsFault.TheVariants as words
-use Rattle.thp_cli.specs.Prelude.{Device, IsShort, IsUnread, IsUntouched, Source, Takes, WritesMessage, WasAnsweredBy, end_status}
+use Rattle.thp_cli.specs.Prelude.{Device, IsShort, IsUnread, IsUntouched, Source, WriterTakes, WritesMessage, WasAnsweredBy, end_status}
 use Rattle.thp_journal_tools.specs.declared.request.ProgramEnd.{ProgramEnd}
 use Rattle.thp_journal_tools.specs.Progress.{ShowsProgress}
 
@@ -18,9 +18,9 @@ abbrev pub ending_if : Bool → Ending
 ending_if illegal = if illegal then Illegal else Written
 
 -- how the program ended, and the text for standard error
-abbrev pub end_of : Result ProgramEnd ProgramFault → Result Ending ProgramFault
-end_of (Ok done) = Ok done.ending
-end_of (Err fault) = Err fault
+abbrev pub program_ending : Result ProgramEnd ProgramFault → Result Ending ProgramFault
+program_ending (Ok done) = Ok done.ending
+program_ending (Err fault) = Err fault
 
 abbrev pub notes_by : Result ProgramEnd ProgramFault → Option (List ℕ)
 notes_by (Ok done) = option_map (λ t. t.items) done.notes
@@ -40,15 +40,15 @@ module _ {A : Type 0} (answers : List (List ℕ) → Result A Error → Type 0) 
       (WasAnsweredBy (λ error. answers words (Err error)) input output result ⊎ IsShort input output result) × (notes ≡ None)
 
   -- what was done with the words, the input and standard output, by how it ended
-  abbrev pub Served : Result (List (List ℕ)) WordsFault → Source → Device → Result Ending ProgramFault → Option (List ℕ) → Type 0
-  Served (Ok words) input output result notes = DidRequest words input output result notes ⊎ DidNothing words input output result notes
-  Served (Err words.NotText) input output result notes = (result ≡ Err NoText) × IsUntouched output × IsUnread input × (notes ≡ None)
-  Served (Err words.OutOfMemory) input output result notes = IsShort input output result × (notes ≡ None)
+  abbrev pub RequestServed : Result (List (List ℕ)) WordsFault → Source → Device → Result Ending ProgramFault → Option (List ℕ) → Type 0
+  RequestServed (Ok words) input output result notes = DidRequest words input output result notes ⊎ DidNothing words input output result notes
+  RequestServed (Err words.NotText) input output result notes = (result ≡ Err NoText) × IsUntouched output × IsUnread input × (notes ≡ None)
+  RequestServed (Err words.OutOfMemory) input output result notes = IsShort input output result × (notes ≡ None)
 
 -- standard error took the text, if there is one, otherwise nothing
 abbrev pub TakesNotes : Device → Option (List ℕ) → Type 0
 TakesNotes errors None = IsUntouched errors
-TakesNotes errors (Some text) = Takes errors text
+TakesNotes errors (Some text) = WriterTakes errors text
 
 -- the text that standard error took, and the exit status, which does not depend on that text
 abbrev pub ReportsEnd : Program → Device → ℕ → Result Ending ProgramFault → Option (List ℕ) → Type 0
@@ -56,11 +56,11 @@ ReportsEnd program errors status (Ok ending) notes = TakesNotes errors notes × 
 ReportsEnd program errors status (Err fault) notes = WritesMessage program errors status (Err fault)
 
 -- how the program ends: what it did, what it reported about that and its exit status
-pub record Finishes {A : Type 0} (program : Program) (answers : List (List ℕ) → Result A Error → Type 0) (does : A → Source → Device → Result Ending ProgramFault → Option (List ℕ) → Type 0) (given : Result (List (List ℕ)) WordsFault) (input : Source) (output errors : Device) (status : ℕ) : Type 0 where
+pub record ToolFinishes {A : Type 0} (program : Program) (answers : List (List ℕ) → Result A Error → Type 0) (does : A → Source → Device → Result Ending ProgramFault → Option (List ℕ) → Type 0) (given : Result (List (List ℕ)) WordsFault) (input : Source) (output errors : Device) (status : ℕ) : Type 0 where
   pub end : Result Ending ProgramFault
   pub notes : Option (List ℕ)
-  pub served : Served answers does given input output end notes
-  pub told : ReportsEnd program errors status end notes
+  pub served : RequestServed answers does given input output end notes
+  pub reported : ReportsEnd program errors status end notes
 
 -- the words make a request whose progress may be shown
 abbrev pub AskForProgress : {A : Type 0} → (List (List ℕ) → Result A Error → Type 0) → (A → Bool → Bool) → Result (List (List ℕ)) WordsFault → Bool → Type 0

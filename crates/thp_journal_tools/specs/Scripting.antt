@@ -25,8 +25,8 @@ pub record IsScripted (bytes text : List ℕ) (found : Scripted) : Type 0 where
   pub script : IsScriptOf journals.nodes found.illegal text found.moved found.out_of_turn
 
 -- the writer took a text
-abbrev pub Grows : Option (List ℕ) → Option (List ℕ) → Type 0
-Grows old new = (text : List ℕ) × Appends old new text
+abbrev pub WriterGrows : Option (List ℕ) → Option (List ℕ) → Type 0
+WriterGrows old new = (text : List ℕ) × Appends old new text
 
 -- a device failed, or memory could not be allocated
 abbrev pub IsDeviceFault : Bool → Bool → RunFault ℕ → Type 0
@@ -45,7 +45,7 @@ IsScriptEnd known old new reader_failed writer_failed (Err fault) = IsDeviceFaul
 
 -- how it ends: the writer took a text, and the result is right
 abbrev pub ScriptEnds : Option (List ℕ) → Option (List ℕ) → Option (List ℕ) → Bool → Bool → Result Scripted (RunFault ℕ) → Type 0
-ScriptEnds known old new reader_failed writer_failed result = Grows old new × IsScriptEnd known old new reader_failed writer_failed result
+ScriptEnds known old new reader_failed writer_failed result = WriterGrows old new × IsScriptEnd known old new reader_failed writer_failed result
 
 -- the script was written like this: with the first illegal event, or none
 pub record Scripts (input : Source) (output : Device) (result : Result Scripted (RunFault ℕ)) : Type 0 where

@@ -4,8 +4,8 @@ ghost use Rattle.thp_script.specs.Prelude.{max_counted, IsFrontOf};
 ghost use Rattle.thp_journal_reader.specs.Prelude.{verdict_text};
 ghost use Rattle.thp_cli.specs.Prelude.{ReadsOn, device_of, WritesAnswer};
 ghost use Rattle.thp_cli.specs.declared.ending.Program.TheVariants.{Thpcheck};
-ghost use Rattle.thp_journal_writer.specs.Totals.{lines_from};
-ghost use Rattle.thp_journal_tools.specs.Checks.{explanation_of, found_in, line_of, CheckEnds, IsFindFault, IsFound};
+ghost use Rattle.thp_journal_writer.specs.Totals.{totals_lines_from};
+ghost use Rattle.thp_journal_tools.specs.Checks.{explanation_of, found_in, line_of_illegal, JournalCheckEnds, IsFindFault, IsFound};
 ghost use Rattle.thp_journal_tools.specs.Progress.{may_show, ShowsProgress};
 
 use crate::keeping_check::{KeepingCheck, SummedNode};
@@ -31,7 +31,7 @@ pub struct CheckFinding {
 
 /// Returns the line of an illegal event.
 fn line_of(illegal: &Option<Illegal>) -> Option<u64>
-    ensures { result ≡ line_of illegal.now }
+    ensures { result ≡ line_of_illegal illegal.now }
 {
     match illegal {
         Some(illegal) => Some(illegal.line),
@@ -60,7 +60,7 @@ fn explanation_of(
 
 /// Returns the verdict, followed by the totals.
 fn text_of(alloc: Global, found: &Summed) -> Result<Vec<u8>, AllocError>
-    ensures { IfOk result (λ text. text.items ≡ verdict_text (line_of found.now.illegal) ++ lines_from 0 found.now.totals.items) }
+    ensures { IfOk result (λ text. text.items ≡ verdict_text (line_of_illegal found.now.illegal) ++ totals_lines_from 0 found.now.totals.items) }
 {
     let verdict = verdict(line_of(&found.illegal));
     let mut text = Vec::new(alloc);
@@ -86,7 +86,7 @@ pub fn check_long<R: Read, W: Write, S: Write, C: Clock>(
     requires reader { reader.old.failed ≡ false }
     requires writer { writer.old.failed ≡ false }
     requires screen { screen.old.writer.failed ≡ false }
-    ensures ends { CheckEnds options (R.remaining reader.old.device) (W.contents writer.old.device) (W.contents writer.new.device) reader.new.failed writer.new.failed (found_in result) }
+    ensures ends { JournalCheckEnds options (R.remaining reader.old.device) (W.contents writer.old.device) (W.contents writer.new.device) reader.new.failed writer.new.failed (found_in result) }
     ensures reads { ReadsOn max_counted reader.new.failed reader.old.calls reader.new.calls }
     ensures writes { WritesAnswer (found_in result) writer.new.failed writer.old.calls writer.new.calls }
     ensures explanation { IfOk result (λ checked. option_map (λ t. t.items) checked.explanation ≡ explanation_of options checked.illegal) }

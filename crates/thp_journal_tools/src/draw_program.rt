@@ -2,9 +2,9 @@
 ghost use Rattle.std.specs.Prelude.{◌≡◌, false, IfOk};
 ghost use Rattle.thp_cli.specs.declared.ending.Program.TheVariants.{Thpdraw};
 ghost use Rattle.thp_cli.specs.Prelude.{device_of, given_words, source_of, IsOption};
-ghost use Rattle.thp_journal_tools.specs.DrawCommandLine.{AnswersWords, node_rule, thpdraw};
-ghost use Rattle.thp_journal_tools.specs.DrawOutcomes.{shows_progress, DoesRequest};
-ghost use Rattle.thp_journal_tools.specs.Requests.{Finishes, ShowsAsAsked};
+ghost use Rattle.thp_journal_tools.specs.DrawCommandLine.{AnswersDrawWords, node_rule, thpdraw};
+ghost use Rattle.thp_journal_tools.specs.DrawOutcomes.{shows_draw_progress, DoesDrawRequest};
+ghost use Rattle.thp_journal_tools.specs.Requests.{ShowsAsAsked, ToolFinishes};
 ghost use Rattle.clap.specs.Words.{app_of};
 
 use crate::draw_help::AFTER_HELP;
@@ -21,11 +21,11 @@ use thp_script::MAX_NODES;
 impl Request for DrawOptions {
     ghost program = { Thpdraw };
 
-    ghost answers = { AnswersWords };
+    ghost answers = { AnswersDrawWords };
 
-    ghost does = { DoesRequest };
+    ghost does = { DoesDrawRequest };
 
-    ghost shows = { shows_progress };
+    ghost shows = { shows_draw_progress };
 
     fn program() -> Program {
         Program::Thpdraw
@@ -77,8 +77,8 @@ pub fn run_draw_program<R: Read, W: Write, E: Write, S: Write, C: Clock>(
     requires output { output.old.failed ≡ false }
     requires errors { errors.old.failed ≡ false }
     requires screen { screen.old.writer.failed ≡ false }
-    ensures finishes { Finishes Thpdraw AnswersWords DoesRequest (given_words words) (source_of R.remaining reader.old reader.new) (device_of W.contents output.old output.new) (device_of E.contents errors.old errors.new) result }
-    ensures screen { ShowsAsAsked Thpdraw AnswersWords shows_progress (given_words words) screen.old.is_terminal (source_of R.remaining reader.old reader.new) (device_of S.contents screen.old.writer screen.new.writer) }
+    ensures finishes { ToolFinishes Thpdraw AnswersDrawWords DoesDrawRequest (given_words words) (source_of R.remaining reader.old reader.new) (device_of W.contents output.old output.new) (device_of E.contents errors.old errors.new) result }
+    ensures screen { ShowsAsAsked Thpdraw AnswersDrawWords shows_draw_progress (given_words words) screen.old.is_terminal (source_of R.remaining reader.old reader.new) (device_of S.contents screen.old.writer screen.new.writer) }
 {
     run_request::<DrawOptions, R, W, E, S, C>(alloc, words, reader, output, errors, screen)
 }

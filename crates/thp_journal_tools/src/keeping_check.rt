@@ -1,6 +1,6 @@
 //! The check of journals of any length that also keeps data of each node.
 ghost use Rattle.std.specs.Prelude.{◌≡◌, Ok, [], IfOk, IfErr, true};
-ghost use Rattle.thp_journal_reader.specs.Prelude.{journals_within, more_text_read, no_text_read, told_with, HasEnded, HasReadText, ReportsLongReadFault};
+ghost use Rattle.thp_journal_reader.specs.Prelude.{journals_within, more_text_read, no_text_read, result_with, HasEnded, HasReadText, ReportsLongReadFault};
 ghost use Rattle.thp_journal_reader.specs.declared.journals.ReadJournals.{ReadJournals};
 ghost use Rattle.thp_script.specs.Prelude.{max_counted, Text};
 ghost use Rattle.thp_journal_tools.specs.Keeping.{KeepsTotals, LeavesTotals, KeepsDrawing, LeavesNumbers};
@@ -25,12 +25,12 @@ pub struct KeepingCheck<K: Drop, F: FollowsNode<Kept = K>> {
 
 impl<K: Drop, F: FollowsNode<Kept = K>> Model for KeepingCheck<K, F> {
     ghost use Rattle.std.specs.Prelude.{◌≤◌};
-    ghost use Rattle.thp_journal_reader.specs.Prelude.{nodes_told, FollowsLines, so_far, ReadSoFar};
+    ghost use Rattle.thp_journal_reader.specs.Prelude.{nodes_read, FollowsLines, so_far, JournalReadSoFar};
     ghost use Rattle.thp_script.specs.Prelude.{max_counted};
 
-    ghost Value = { ReadSoFar };
+    ghost Value = { JournalReadSoFar };
 
-    ghost view = { λ c. so_far (nodes_told c.text.nodes.lines) c.text.place c.text.text };
+    ghost view = { λ c. so_far (nodes_read c.text.nodes.lines) c.text.place c.text.text };
 
     ghost invariant = { λ c. FollowsLines F.replayed F.keeps F.FOLLOWS_ALL c.text.text.line c.text.nodes × (c.text.text.most ≤ max_counted) };
 }
@@ -38,7 +38,7 @@ impl<K: Drop, F: FollowsNode<Kept = K>> Model for KeepingCheck<K, F> {
 impl<K: Drop, F: FollowsNode<Kept = K>> KeepingCheck<K, F> {
     /// Creates a check that has read nothing. The journals can have any length.
     pub fn new(alloc: Global) -> KeepingCheck<K, F>
-        ensures { (text : Text) → told_with result text ≡ journals_within max_counted text }
+        ensures { (text : Text) → result_with result text ≡ journals_within max_counted text }
     {
         KeepingCheck {
             text: TextReader::new(
@@ -52,8 +52,8 @@ impl<K: Drop, F: FollowsNode<Kept = K>> KeepingCheck<K, F> {
     /// Returns the first illegal event of the whole text, and the data of each node. Fails with the first error of the text, even if
     /// that is after an illegal event, and if memory for the last node's data can't be allocated.
     pub fn finish(self) -> Result<(Option<Illegal>, Vec<K>), LongReadFault>
-        ensures kept { IfOk result (λ found. (journals : ReadJournals) × (told_with self [] ≡ Ok journals) × HasEnded F.keeps F.FOLLOWS_ALL journals.nodes found.0 found.1.items) }
-        ensures fault { IfErr result (ReportsLongReadFault (told_with self [])) }
+        ensures kept { IfOk result (λ found. (journals : ReadJournals) × (result_with self [] ≡ Ok journals) × HasEnded F.keeps F.FOLLOWS_ALL journals.nodes found.0 found.1.items) }
+        ensures fault { IfErr result (ReportsLongReadFault (result_with self [])) }
     {
         match self.text.finish() {
             Ok(nodes) => Ok(nodes.finish()?),

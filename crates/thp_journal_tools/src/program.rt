@@ -4,7 +4,7 @@ ghost use Rattle.thp_cli.specs.declared.ending.Program.TheVariants.{Thpcheck};
 ghost use Rattle.thp_cli.specs.Prelude.{device_of, given_words, source_of};
 ghost use Rattle.thp_journal_tools.specs.CommandLine.{AnswersWords, thpcheck};
 ghost use Rattle.thp_journal_tools.specs.Outcomes.{ending_of, shows_progress, DoesRequest, DoesScript};
-ghost use Rattle.thp_journal_tools.specs.Requests.{end_of, notes_by, Finishes, ShowsAsAsked};
+ghost use Rattle.thp_journal_tools.specs.Requests.{program_ending, notes_by, ToolFinishes, ShowsAsAsked};
 ghost use Rattle.clap.specs.Words.{app_of};
 
 use crate::checking::check_long;
@@ -38,7 +38,7 @@ fn script<R: Read, W: Write>(
 ) -> Result<ProgramEnd, ProgramFault>
     requires reader { reader.old.failed ≡ false }
     requires output { output.old.failed ≡ false }
-    ensures does { DoesScript options (source_of R.remaining reader.old reader.new) (device_of W.contents output.old output.new) (end_of result) (notes_by result) }
+    ensures does { DoesScript options (source_of R.remaining reader.old reader.new) (device_of W.contents output.old output.new) (program_ending result) (notes_by result) }
 {
     let found = write_script(alloc, reader, output)?;
     let notes = notes_of(alloc, options, &found)?;
@@ -119,7 +119,7 @@ pub fn run_check_program<R: Read, W: Write, E: Write, S: Write, C: Clock>(
     requires output { output.old.failed ≡ false }
     requires errors { errors.old.failed ≡ false }
     requires screen { screen.old.writer.failed ≡ false }
-    ensures finishes { Finishes Thpcheck AnswersWords DoesRequest (given_words words) (source_of R.remaining reader.old reader.new) (device_of W.contents output.old output.new) (device_of E.contents errors.old errors.new) result }
+    ensures finishes { ToolFinishes Thpcheck AnswersWords DoesRequest (given_words words) (source_of R.remaining reader.old reader.new) (device_of W.contents output.old output.new) (device_of E.contents errors.old errors.new) result }
     ensures screen { ShowsAsAsked Thpcheck AnswersWords shows_progress (given_words words) screen.old.is_terminal (source_of R.remaining reader.old reader.new) (device_of S.contents screen.old.writer screen.new.writer) }
 {
     run_request::<CheckOptions, R, W, E, S, C>(alloc, words, reader, output, errors, screen)

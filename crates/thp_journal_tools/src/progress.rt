@@ -10,7 +10,7 @@ ghost use Rattle.thp_journal_tools.specs.Counting.{begins_after, events_from};
 use std::alloc::{AllocError, Global};
 use std::io::{Read, Write};
 use std::time::{Clock, Duration, Instant};
-use thp_cli::{Program, RunFault, Watched, name_front, read_parts, tell_text};
+use thp_cli::{Program, RunFault, Watched, name_front, read_parts, report_message};
 use thp_journal_writer::{put, put_number};
 use thp_script::{MAX_COUNTED, ReadsParts};
 
@@ -108,7 +108,7 @@ impl Progress {
             return;
         };
         self.stands = true;
-        tell_text(&mut screen.writer, line.as_slice());
+        report_message(&mut screen.writer, line.as_slice());
     }
 
     /// Counts more bytes, and shows the progress if a line is due.
@@ -134,7 +134,7 @@ impl Progress {
         ensures { Removes S.contents self.stands screen.old.writer screen.new.writer }
     {
         if self.stands && !screen.writer.failed() {
-            tell_text(&mut screen.writer, REMOVAL);
+            report_message(&mut screen.writer, REMOVAL);
         }
     }
 }

@@ -6,7 +6,7 @@ ghost use Rattle.thp_cli.specs.declared.ending.Program.{Program};
 ghost use Rattle.thp_cli.specs.declared.ending.ProgramFault.{ProgramFault};
 ghost use Rattle.thp_cli.specs.Prelude.{device_of, given_words, source_of, Device, Source};
 ghost use Rattle.thp_journal_tools.specs.Progress.{ShowsProgress};
-ghost use Rattle.thp_journal_tools.specs.Requests.{end_of, ending_if, notes_by, Finishes, Served, ShowsAsAsked, TakesNotes};
+ghost use Rattle.thp_journal_tools.specs.Requests.{program_ending, ending_if, notes_by, ToolFinishes, RequestServed, ShowsAsAsked, TakesNotes};
 
 use crate::progress::Screen;
 use clap::Error;
@@ -14,8 +14,8 @@ use std::alloc::Global;
 use std::io::{Read, Write};
 use std::time::Clock;
 use thp_cli::{
-    Ending, Program, ProgramFault, RunFault, Watched, WordsFault, answer, status_of_ending, tell,
-    tell_text, texts_of,
+    Ending, Program, ProgramFault, RunFault, Watched, WordsFault, answer, report_fault,
+    report_message, status_of_ending, texts_of,
 };
 
 /// How a program ended after doing what was requested.
@@ -60,7 +60,7 @@ pub(crate) trait Request: Sized {
         requires reader { reader.old.failed ≡ false }
         requires output { output.old.failed ≡ false }
         requires screen { screen.old.writer.failed ≡ false }
-        ensures does { does self (source_of R.remaining reader.old reader.new) (device_of W.contents output.old output.new) (end_of result) (notes_by result) }
+        ensures does { does self (source_of R.remaining reader.old reader.new) (device_of W.contents output.old output.new) (program_ending result) (notes_by result) }
         ensures screen { ShowsProgress program (shows self screen.old.is_terminal) (R.remaining reader.old.device) (device_of S.contents screen.old.writer screen.new.writer) };
 }
 
@@ -75,7 +75,7 @@ fn serve<Q: Request, R: Read, W: Write, S: Write, C: Clock>(
     requires reader { reader.old.failed ≡ false }
     requires output { output.old.failed ≡ false }
     requires screen { screen.old.writer.failed ≡ false }
-    ensures served { Served Q.answers Q.does (given_words words.now) (source_of R.remaining reader.old reader.new) (device_of W.contents output.old output.new) (end_of result) (notes_by result) }
+    ensures served { RequestServed Q.answers Q.does (given_words words.now) (source_of R.remaining reader.old reader.new) (device_of W.contents output.old output.new) (program_ending result) (notes_by result) }
     ensures screen { ShowsAsAsked Q.program Q.answers Q.shows (given_words words.now) screen.old.is_terminal (source_of R.remaining reader.old reader.new) (device_of S.contents screen.old.writer screen.new.writer) }
 {
     let words = match words {
@@ -113,7 +113,7 @@ fn note<E: Write>(notes: Option<Vec<u8>>, errors: &mut Watched<E>)
     ensures { TakesNotes (device_of E.contents errors.old errors.new) (option_map (λ t. t.items) notes) }
 {
     if let Some(text) = notes {
-        tell_text(errors, text.as_slice());
+        report_message(errors, text.as_slice());
     }
 }
 
@@ -131,7 +131,7 @@ pub(crate) fn run_request<Q: Request, R: Read, W: Write, E: Write, S: Write, C: 
     requires output { output.old.failed ≡ false }
     requires errors { errors.old.failed ≡ false }
     requires screen { screen.old.writer.failed ≡ false }
-    ensures finishes { Finishes Q.program Q.answers Q.does (given_words words) (source_of R.remaining reader.old reader.new) (device_of W.contents output.old output.new) (device_of E.contents errors.old errors.new) result }
+    ensures finishes { ToolFinishes Q.program Q.answers Q.does (given_words words) (source_of R.remaining reader.old reader.new) (device_of W.contents output.old output.new) (device_of E.contents errors.old errors.new) result }
     ensures screen { ShowsAsAsked Q.program Q.answers Q.shows (given_words words) screen.old.is_terminal (source_of R.remaining reader.old reader.new) (device_of S.contents screen.old.writer screen.new.writer) }
 {
     match serve::<Q, R, W, S, C>(alloc, &words, reader, output, screen) {
@@ -139,6 +139,6 @@ pub(crate) fn run_request<Q: Request, R: Read, W: Write, E: Write, S: Write, C: 
             note(done.notes, errors);
             status_of_ending(done.ending)
         }
-        Err(fault) => tell(Q::program(), fault, errors),
+        Err(fault) => report_fault(Q::program(), fault, errors),
     }
 }

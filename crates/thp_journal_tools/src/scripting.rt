@@ -2,8 +2,8 @@
 ghost use Rattle.std.specs.Prelude.{◌≡◌, ◌++◌, [], ℕ, List, IfErr, IfOk, IfSome, false, OnOk, option_map};
 ghost use Rattle.thp_script.specs.Prelude.{max_counted, IsFrontOf};
 ghost use Rattle.thp_cli.specs.Prelude.{ReadsOn};
-ghost use Rattle.thp_journal_reader.specs.Prelude.{journals_within, told_with};
-ghost use Rattle.thp_journal_tools.specs.Scripting.{Grows, IsDeviceFault, ScriptEnds, illegal_text, moved_text, note, notes_of, some_text};
+ghost use Rattle.thp_journal_reader.specs.Prelude.{journals_within, result_with};
+ghost use Rattle.thp_journal_tools.specs.Scripting.{IsDeviceFault, ScriptEnds, WriterGrows, illegal_text, moved_text, note, notes_of, some_text};
 ghost use Rattle.std.specs.Io.KnownBytes.{Appends};
 
 use crate::program::CheckOptions;
@@ -52,8 +52,8 @@ fn write_parts<R: Read, W: Write>(
 ) -> Result<ScriptCheck, RunFault<u64>>
     requires reader { reader.old.failed ≡ false }
     requires writer { writer.old.failed ≡ false }
-    ensures parts { IfOk result (λ check. (bytes : List ℕ) × IfSome (R.remaining reader.old.device) (IsFrontOf max_counted bytes) × (told_with check.read [] ≡ journals_within max_counted bytes)) }
-    ensures grows { Grows (W.contents writer.old.device) (W.contents writer.new.device) }
+    ensures parts { IfOk result (λ check. (bytes : List ℕ) × IfSome (R.remaining reader.old.device) (IsFrontOf max_counted bytes) × (result_with check.read [] ≡ journals_within max_counted bytes)) }
+    ensures grows { WriterGrows (W.contents writer.old.device) (W.contents writer.new.device) }
     ensures text { IfOk result (λ check. Appends (W.contents writer.old.device) (W.contents writer.new.device) check.taken) }
     ensures flags { IfOk result (λ _. (reader.new.failed ≡ false) × (writer.new.failed ≡ false)) }
     ensures fault { IfErr result (λ fault. IsDeviceFault reader.new.failed writer.new.failed fault) }
@@ -85,8 +85,8 @@ fn write_part<W: Write>(
     writer: &mut Watched<W>,
 ) -> Result<ScriptCheck, RunFault<u64>>
     requires { writer.old.failed ≡ false }
-    ensures read { IfOk result (λ new. (more : List ℕ) → told_with new.read more ≡ told_with check.read (part.now ++ more)) }
-    ensures grows { Grows (W.contents writer.old.device) (W.contents writer.new.device) }
+    ensures read { IfOk result (λ new. (more : List ℕ) → result_with new.read more ≡ result_with check.read (part.now ++ more)) }
+    ensures grows { WriterGrows (W.contents writer.old.device) (W.contents writer.new.device) }
     ensures text { IfOk result (λ new. (text : List ℕ) × (new.taken ≡ check.taken ++ text) × Appends (W.contents writer.old.device) (W.contents writer.new.device) text) }
     ensures flag { IfOk result (λ _. writer.new.failed ≡ false) }
     ensures fault { IfErr result (λ fault. IsDeviceFault false writer.new.failed fault) }

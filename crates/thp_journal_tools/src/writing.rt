@@ -3,8 +3,8 @@ ghost use Rattle.std.specs.Prelude.{◌≡◌, IfErr, IfOk, false, ℕ, List, If
 ghost use Rattle.thp_journal_tools.specs.Progress.{may_show, ShowsProgress};
 ghost use Rattle.thp_cli.specs.declared.ending.Program.TheVariants.{Thpdraw};
 ghost use Rattle.thp_cli.specs.Prelude.{device_of, source_of, ReadsOn};
-ghost use Rattle.thp_journal_tools.specs.Drawings.{drawing_text, node_text, some_illegal, Shows, IsFound};
-ghost use Rattle.thp_journal_tools.specs.DrawOutcomes.{Does, IsOutputFault};
+ghost use Rattle.thp_journal_tools.specs.Drawings.{drawing_text, node_text, some_illegal, Shows, AreDrawn};
+ghost use Rattle.thp_journal_tools.specs.DrawOutcomes.{DrawIsDone, IsOutputFault};
 ghost use Rattle.thp_journal_tools.specs.Checks.{IsFindFault};
 ghost use Rattle.thp_script.specs.Prelude.{max_counted, IsFrontOf};
 
@@ -106,7 +106,7 @@ pub fn draw<R: Read, W: Write, S: Write, C: Clock>(
     requires reader { reader.old.failed ≡ false }
     requires writer { writer.old.failed ≡ false }
     requires screen { screen.old.writer.failed ≡ false }
-    ensures does { Does options (source_of R.remaining reader.old reader.new) (device_of W.contents writer.old writer.new) result }
+    ensures does { DrawIsDone options (source_of R.remaining reader.old reader.new) (device_of W.contents writer.old writer.new) result }
     ensures screen { ShowsProgress Thpdraw (may_show options.progress screen.old.is_terminal) (R.remaining reader.old.device) (device_of S.contents screen.old.writer screen.new.writer) }
 {
     let nodes = find_nodes(alloc, options.progress, reader, screen)?;
@@ -124,7 +124,7 @@ pub(crate) fn find_nodes<R: Read, S: Write, C: Clock>(
 ) -> Result<Vec<DrawnNode>, RunFault<u64>>
     requires reader { reader.old.failed ≡ false }
     requires screen { screen.old.writer.failed ≡ false }
-    ensures found { IfOk result (λ nodes. (bytes : List ℕ) × IfSome (R.remaining reader.old.device) (IsFrontOf max_counted bytes) × IsFound bytes nodes.items) }
+    ensures found { IfOk result (λ nodes. (bytes : List ℕ) × IfSome (R.remaining reader.old.device) (IsFrontOf max_counted bytes) × AreDrawn bytes nodes.items) }
     ensures flag { IfOk result (λ _. reader.new.failed ≡ false) }
     ensures fault { IfErr result (λ fault. IsFindFault (R.remaining reader.old.device) reader.new.failed fault) }
     ensures calls { ReadsOn max_counted reader.new.failed reader.old.calls reader.new.calls }

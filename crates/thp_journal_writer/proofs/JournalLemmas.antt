@@ -5,7 +5,7 @@ use Rattle.std.proofs.lemmas.Grind.{flat_map-append}
 use Rattle.std.proofs.lemmas.List.{append-nil, map-append, length-map, length-take-le}
 use Rattle.thp_history.specs.declared.events.Event.{Event}
 use Rattle.thp_journal_writer.specs.Prelude.{NodeHistory, Version, event_line, journal_of, Journal, ended, version_of, version_line, node_line, lines_of_node, journal_lines, journal_text}
-use Rattle.thp_journal_writer.specs.Journals.{lines_from}
+use Rattle.thp_journal_writer.specs.Journals.{journal_lines_from}
 
 -- the lines of some events
 abbrev pub event_lines : List Event → List ℕ
@@ -26,18 +26,18 @@ unfolding lines_of_node
 node_whole t v n j = append_assoc t (ended (node_line v n j.0)) (event_lines j.1)
 
 -- the lines of one more node
-pub lines_from-more : (v : Version) (n : ℕ) (js : List Journal) (j : Journal) → lines_from v n (js ++ j ∷ []) ≡ lines_from v n js ++ lines_of_node v (n + length js) j
-lines_from-more v n [] j = append-nil (lines_of_node v n j) ∙ ap (λ k. lines_of_node v k j) (omega arith)
-lines_from-more v n (x ∷ xs) j =
-    ap (λ ls. lines_of_node v n x ++ ls) (lines_from-more v (n + 1) xs j)
-    ∙ ap (λ k. lines_of_node v n x ++ (lines_from v (n + 1) xs ++ lines_of_node v k j)) (there n (length xs))
-    ∙ sym (append_assoc (lines_of_node v n x) (lines_from v (n + 1) xs) (lines_of_node v (n + length (x ∷ xs)) j)) where
+pub journal_lines_from-more : (v : Version) (n : ℕ) (js : List Journal) (j : Journal) → journal_lines_from v n (js ++ j ∷ []) ≡ journal_lines_from v n js ++ lines_of_node v (n + length js) j
+journal_lines_from-more v n [] j = append-nil (lines_of_node v n j) ∙ ap (λ k. lines_of_node v k j) (omega arith)
+journal_lines_from-more v n (x ∷ xs) j =
+    ap (λ ls. lines_of_node v n x ++ ls) (journal_lines_from-more v (n + 1) xs j)
+    ∙ ap (λ k. lines_of_node v n x ++ (journal_lines_from v (n + 1) xs ++ lines_of_node v k j)) (there n (length xs))
+    ∙ sym (append_assoc (lines_of_node v n x) (journal_lines_from v (n + 1) xs) (lines_of_node v (n + length (x ∷ xs)) j)) where
       there : (n k : ℕ) → n + 1 + k ≡ n + suc k
       there n k = omega arith
 
 -- the text of some nodes, without the first line and the last
 abbrev pub node_texts : Version → List NodeHistory → List ℕ
-node_texts v nodes = flat_map ended (lines_from v 0 (map journal_of nodes))
+node_texts v nodes = flat_map ended (journal_lines_from v 0 (map journal_of nodes))
 
 -- one more node
 pub node_texts-more : (t : List ℕ) (v : Version) (nodes : List NodeHistory) (i : ℕ) (d : NodeHistory) → i < length nodes →
@@ -47,9 +47,9 @@ node_texts-more t v nodes i d h =
     ∙ ap (λ s. t ++ s) (sym (ap (node_texts v) (ap (λ k. take k nodes) (add-one i) ∙ take-suc nodes i d h) ∙ snoc (take i nodes) (get_or nodes i d) i (length-take-le i nodes (omega arith)))) where
       snoc : (ns : List NodeHistory) (node : NodeHistory) (k : ℕ) → length ns ≡ k → node_texts v (ns ++ node ∷ []) ≡ node_texts v ns ++ flat_map ended (lines_of_node v k (journal_of node))
       snoc ns node k e =
-          ap (λ js. flat_map ended (lines_from v 0 js)) (map-append journal_of ns (node ∷ []))
-          ∙ ap (λ ls. flat_map ended ls) (lines_from-more v 0 (map journal_of ns) (journal_of node))
-          ∙ flat_map-append ended (lines_from v 0 (map journal_of ns)) (lines_of_node v (0 + length (map journal_of ns)) (journal_of node))
+          ap (λ js. flat_map ended (journal_lines_from v 0 js)) (map-append journal_of ns (node ∷ []))
+          ∙ ap (λ ls. flat_map ended ls) (journal_lines_from-more v 0 (map journal_of ns) (journal_of node))
+          ∙ flat_map-append ended (journal_lines_from v 0 (map journal_of ns)) (lines_of_node v (0 + length (map journal_of ns)) (journal_of node))
           ∙ ap (λ m. node_texts v ns ++ flat_map ended (lines_of_node v m (journal_of node))) (omega (arith, length-map ns journal_of, e))
 
 -- the whole text

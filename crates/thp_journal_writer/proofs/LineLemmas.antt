@@ -3,7 +3,7 @@ use Rattle.std.proofs.Common.{◌≡◌, ℕ, ◌+◌, ◌/◌, ◌%◌, ◌<◌
 use Rattle.std.proofs.lemmas.Fmt.{decimal_digit, decimal_step}
 use Rattle.thp_history.specs.declared.events.Event.{Event}
 use Rattle.thp_history.specs.declared.events.What.{What}
-use Rattle.thp_journal_writer.specs.Prelude.{line_of, what_words, event_words, event_line, NodeHistory, Version, Plain, Orders, Underused, journal_of, Journal, ended, is_access, node_line, underused_word, tells_underused, has_order_9, version_line, version_number, version_of}
+use Rattle.thp_journal_writer.specs.Prelude.{spaced_line, what_words, event_words, event_line, NodeHistory, Version, Plain, Orders, Underused, journal_of, Journal, ended, is_access, node_line, underused_word, reports_underused, has_order_9, version_line, version_number, version_of}
 use Rattle.std.specs.List.{list_any, list_all}
 use Rattle.thp_history.specs.declared.shape.Shape.{Shape}
 use Rattle.thp_history.specs.Prelude.{some_event, shrinks_underused}
@@ -43,34 +43,34 @@ pub underused_node : (t t1 t2 t3 t4 : List ℕ) (v : Version) (n : ℕ) (s : Sha
 unfolding node_line
 underused_node t t1 t2 t3 t4 v n s is e1 e2 e3 e4 = rw (e4, e3, e2, e1, is) (simp append_assoc)
 
--- a test of journals, at the nodes that they tell
-any_of_map : (nodes : List NodeHistory) → list_any tells_underused (map journal_of nodes) ≡ list_any (λ node. tells_underused (journal_of node)) nodes
+-- a test of journals, at the nodes that they report
+any_of_map : (nodes : List NodeHistory) → list_any reports_underused (map journal_of nodes) ≡ list_any (λ node. reports_underused (journal_of node)) nodes
 any_of_map [] = refl
-any_of_map (node ∷ nodes) = ap (λ b. tells_underused (journal_of node) || b) (any_of_map nodes)
+any_of_map (node ∷ nodes) = ap (λ b. reports_underused (journal_of node) || b) (any_of_map nodes)
 
 all_of_map : (nodes : List NodeHistory) → list_all has_order_9 (map journal_of nodes) ≡ list_all (λ node. has_order_9 (journal_of node)) nodes
 all_of_map [] = refl
 all_of_map (node ∷ nodes) = ap (λ b. has_order_9 (journal_of node) && b) (all_of_map nodes)
 
 -- the version of some nodes, by their tests
-pub version_underused : (nodes : List NodeHistory) → list_any (λ node. tells_underused (journal_of node)) nodes ≡ true → Underused ≡ version_of (map journal_of nodes)
+pub version_underused : (nodes : List NodeHistory) → list_any (λ node. reports_underused (journal_of node)) nodes ≡ true → Underused ≡ version_of (map journal_of nodes)
 unfolding version_of
 version_underused nodes e = rw (any_of_map nodes ∙ e) refl
 
-pub version_plain : (nodes : List NodeHistory) → list_any (λ node. tells_underused (journal_of node)) nodes ≡ false → list_all (λ node. has_order_9 (journal_of node)) nodes ≡ true → Plain ≡ version_of (map journal_of nodes)
+pub version_plain : (nodes : List NodeHistory) → list_any (λ node. reports_underused (journal_of node)) nodes ≡ false → list_all (λ node. has_order_9 (journal_of node)) nodes ≡ true → Plain ≡ version_of (map journal_of nodes)
 unfolding version_of
 version_plain nodes e f = rw (any_of_map nodes ∙ e, all_of_map nodes ∙ f) refl
 
-pub version_orders : (nodes : List NodeHistory) → list_any (λ node. tells_underused (journal_of node)) nodes ≡ false → list_all (λ node. has_order_9 (journal_of node)) nodes ≡ false → Orders ≡ version_of (map journal_of nodes)
+pub version_orders : (nodes : List NodeHistory) → list_any (λ node. reports_underused (journal_of node)) nodes ≡ false → list_all (λ node. has_order_9 (journal_of node)) nodes ≡ false → Orders ≡ version_of (map journal_of nodes)
 unfolding version_of
 version_orders nodes e f = rw (any_of_map nodes ∙ e, all_of_map nodes ∙ f) refl
 
 -- the caller stands before what happened
-caller_first : (digits : List ℕ) (w : What) → line_of (digits ∷ what_words w) ≡ digits ++ 32 ∷ line_of (what_words w)
+caller_first : (digits : List ℕ) (w : What) → spaced_line (digits ∷ what_words w) ≡ digits ++ 32 ∷ spaced_line (what_words w)
 caller_first digits x = grind arith
 
 -- the line of an event behind a text
-pub event_after : (t t1 : List ℕ) (caller : ℕ) (e : Event) → caller ≡ e.caller → t1 ≡ t ++ decimal caller ++ 32 ∷ [] → t1 ++ ended (line_of (what_words e.what)) ≡ t ++ ended (event_line e)
+pub event_after : (t t1 : List ℕ) (caller : ℕ) (e : Event) → caller ≡ e.caller → t1 ≡ t ++ decimal caller ++ 32 ∷ [] → t1 ++ ended (spaced_line (what_words e.what)) ≡ t ++ ended (event_line e)
 unfolding event_line event_words
 event_after t t1 caller e same e1 = grind (arith, caller_first, append_assoc)
 
@@ -78,11 +78,11 @@ event_after t t1 caller e same e1 = grind (arith, caller_first, append_assoc)
 pub version_after : (t t1 : List ℕ) (n : ℕ) (v : Version) → n ≡ version_number v → t1 ≡ t ++ codes "thp-journal " → t1 ++ decimal n ++ 10 ∷ [] ≡ t ++ ended (version_line v)
 version_after t t1 n v e f = rw (f, e) (simp append_assoc)
 
--- what a node tells of underused pages and of what was written
-pub told_by_switch : (j : Journal) (b : Bool) → b ≡ shrinks_underused j.0 → b ≡ true → b ≡ tells_underused j
-unfolding tells_underused
-told_by_switch j b e is = is ∙ sym (ap (λ x. x || some_event is_access j.1) (sym e ∙ is))
+-- what a node shows of underused pages and of what was written
+pub reported_by_switch : (j : Journal) (b : Bool) → b ≡ shrinks_underused j.0 → b ≡ true → b ≡ reports_underused j
+unfolding reports_underused
+reported_by_switch j b e is = is ∙ sym (ap (λ x. x || some_event is_access j.1) (sym e ∙ is))
 
-pub told_by_events : (j : Journal) (b c : Bool) → b ≡ shrinks_underused j.0 → b ≡ false → c ≡ list_any (λ (event : Event). is_access event.what) j.1 → c ≡ tells_underused j
-unfolding tells_underused some_event
-told_by_events j b c e is f = f ∙ sym (ap (λ x. x || some_event is_access j.1) (sym e ∙ is))
+pub reported_by_events : (j : Journal) (b c : Bool) → b ≡ shrinks_underused j.0 → b ≡ false → c ≡ list_any (λ (event : Event). is_access event.what) j.1 → c ≡ reports_underused j
+unfolding reports_underused some_event
+reported_by_events j b c e is f = f ∙ sym (ap (λ x. x || some_event is_access j.1) (sym e ∙ is))

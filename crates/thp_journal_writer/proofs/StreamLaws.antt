@@ -6,19 +6,19 @@ use Rattle.thp_history.specs.declared.events.Event.{Event}
 use Rattle.thp_history.specs.declared.shape.Shape.{Shape}
 use Rattle.thp_history.specs.Prelude.{History}
 use Rattle.thp_journal_writer.specs.Prelude.{Version, event_line, Journal, ended, journal_lines, journal_text, lines_of_node, node_line, version_line, version_of, text_begun, VersionComesFirst, NodeFollows, EventFollows, LeastVersionIsJournalText}
-use Rattle.thp_journal_writer.specs.Journals.{lines_from}
-use Rattle.thp_journal_writer.proofs.JournalLemmas.{lines_from-more}
+use Rattle.thp_journal_writer.specs.Journals.{journal_lines_from}
+use Rattle.thp_journal_writer.proofs.JournalLemmas.{journal_lines_from-more}
 
 -- with one more node
 with_node : (v : Version) (journals : List Journal) (j : Journal) → text_begun v (journals ++ j ∷ []) ≡ text_begun v journals ++ flat_map ended (lines_of_node v (length journals) j)
 with_node v journals j =
-    ap (λ ls. flat_map ended (version_line v ∷ ls)) (lines_from-more v 0 journals j)
-    ∙ ap (λ k. flat_map ended (version_line v ∷ (lines_from v 0 journals ++ lines_of_node v k j))) (from_none (length journals))
-    ∙ flat_map-append ended (version_line v ∷ lines_from v 0 journals) (lines_of_node v (length journals) j) where
+    ap (λ ls. flat_map ended (version_line v ∷ ls)) (journal_lines_from-more v 0 journals j)
+    ∙ ap (λ k. flat_map ended (version_line v ∷ (journal_lines_from v 0 journals ++ lines_of_node v k j))) (from_none (length journals))
+    ∙ flat_map-append ended (version_line v ∷ journal_lines_from v 0 journals) (lines_of_node v (length journals) j) where
       from_none : (n : ℕ) → 0 + n ≡ n
       from_none n = omega arith
 
--- a node of which nothing is told yet
+-- a node of which nothing is reported yet
 alone : (v : Version) (n : ℕ) (shape : Shape) → flat_map ended (lines_of_node v n (shape, [])) ≡ ended (node_line v n shape)
 unfolding lines_of_node
 alone v n shape = append-nil (ended (node_line v n shape))
@@ -48,4 +48,4 @@ event_follows v journals shape history e =
 pub least_is_journal_text : LeastVersionIsJournalText
 unfolding journal_text journal_lines
 least_is_journal_text journals =
-    sym (flat_map-append ended (version_line (version_of journals) ∷ lines_from (version_of journals) 0 journals) (codes "end" ∷ []))
+    sym (flat_map-append ended (version_line (version_of journals) ∷ journal_lines_from (version_of journals) 0 journals) (codes "end" ∷ []))

@@ -10,8 +10,8 @@ use Rattle.thp_history.specs.declared.events.What.TheVariants.{Alloc, MapWhole, 
 use Rattle.thp_journal_writer.specs.SetTexts.{set_text}
 
 -- words separated by a space (32)
-abbrev pub line_of : List (List ℕ) → List ℕ
-line_of words = join_with_byte 32 words
+abbrev pub spaced_line : List (List ℕ) → List ℕ
+spaced_line words = join_with_byte 32 words
 
 -- the effect of an unmap or an unpin on its page
 abbrev pub outcome_word : Outcome → List ℕ
@@ -74,7 +74,7 @@ event_words e = decimal e.caller ∷ what_words e.what
 
 -- the line of an event
 unfoldable pub event_line : Event → List ℕ
-event_line e = line_of (event_words e)
+event_line e = spaced_line (event_words e)
 
 -- the numbers of a range of subpages fit an operand
 abbrev pub IsSmallRange : ℕ → ℕ → ℕ → Type 0

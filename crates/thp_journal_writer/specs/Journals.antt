@@ -7,7 +7,7 @@ use Rattle.thp_history.specs.declared.shape.Shape.{Shape}
 use Rattle.thp_history.specs.Prelude.{History, some_event}
 use Rattle.thp_journal_writer.specs.declared.version.Version.{Version}
 use Rattle.thp_journal_writer.specs.declared.version.Version.TheVariants.{Plain, Orders, Underused}
-use Rattle.thp_journal_writer.specs.EventLines.{line_of, event_line}
+use Rattle.thp_journal_writer.specs.EventLines.{spaced_line, event_line}
 
 -- the shape of a node, and its events
 abbrev pub Journal : Type 0
@@ -20,8 +20,8 @@ is_access (Zero page first count) = true
 is_access _ = false
 
 -- the node looks for underused pages, or writes to its pages were recorded
-unfoldable pub tells_underused : Journal → Bool
-tells_underused journal = is_some journal.0.underused || some_event is_access journal.1
+unfoldable pub reports_underused : Journal → Bool
+reports_underused journal = is_some journal.0.underused || some_event is_access journal.1
 
 -- the pages of the node have the order of a THP on x86-64
 abbrev pub has_order_9 : Journal → Bool
@@ -30,7 +30,7 @@ has_order_9 journal = journal.0.order == 9
 -- the least version that suffices for these journals
 unfoldable pub version_of : List Journal → Version
 version_of journals =
-    if list_any tells_underused journals then Underused
+    if list_any reports_underused journals then Underused
     else if list_all has_order_9 journals then Plain
     else Orders
 
@@ -42,7 +42,7 @@ version_number Underused = 3
 
 -- the first line of a text
 abbrev pub version_line : Version → List ℕ
-version_line v = line_of (codes "thp-journal" ∷ decimal (version_number v) ∷ [])
+version_line v = spaced_line (codes "thp-journal" ∷ decimal (version_number v) ∷ [])
 
 -- `off`, or the threshold
 abbrev pub underused_word : Option ℕ → List ℕ
@@ -65,20 +65,20 @@ node_words Underused n s = order_words n s ++ codes "underused" ∷ underused_wo
 
 -- the line of node n
 unfoldable pub node_line : Version → ℕ → Shape → List ℕ
-node_line v n s = line_of (node_words v n s)
+node_line v n s = spaced_line (node_words v n s)
 
 -- the lines of node n: its own, and one for each event
 unfoldable pub lines_of_node : Version → ℕ → Journal → List (List ℕ)
 lines_of_node v n journal = node_line v n journal.0 ∷ map event_line journal.1
 
 -- the lines of nodes that are numbered from n on
-abbrev pub lines_from : Version → ℕ → List Journal → List (List ℕ)
-lines_from v n [] = []
-lines_from v n (journal ∷ journals) = lines_of_node v n journal ++ lines_from v (n + 1) journals
+abbrev pub journal_lines_from : Version → ℕ → List Journal → List (List ℕ)
+journal_lines_from v n [] = []
+journal_lines_from v n (journal ∷ journals) = lines_of_node v n journal ++ journal_lines_from v (n + 1) journals
 
 -- the lines of a journal text, without their line feeds
 unfoldable pub journal_lines : List Journal → List (List ℕ)
-journal_lines journals = version_line (version_of journals) ∷ lines_from (version_of journals) 0 journals ++ codes "end" ∷ []
+journal_lines journals = version_line (version_of journals) ∷ journal_lines_from (version_of journals) 0 journals ++ codes "end" ∷ []
 
 -- a line with its line feed (10)
 abbrev pub ended : List ℕ → List ℕ

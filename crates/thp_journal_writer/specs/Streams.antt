@@ -10,7 +10,7 @@ use Rattle.thp_journal_writer.specs.declared.stream.PutFault.TheVariants.{OutOfM
 use Rattle.thp_journal_writer.specs.declared.version.Version.{Version}
 use Rattle.thp_journal_writer.specs.declared.version.Version.TheVariants.{Plain, Orders, Underused}
 use Rattle.thp_journal_writer.specs.EventLines.{event_line}
-use Rattle.thp_journal_writer.specs.Journals.{Journal, ended, journal_text, lines_from, node_line, version_line, version_number, version_of}
+use Rattle.thp_journal_writer.specs.Journals.{Journal, ended, journal_lines_from, journal_text, node_line, version_line, version_number, version_of}
 
 -- the least version for a node of this shape
 abbrev pub shape_version : Shape → Version
@@ -27,8 +27,8 @@ what_version (Used page) = Underused
 what_version _ = Plain
 
 -- a version includes itself and each earlier one
-abbrev pub tells : Version → Version → Bool
-tells v least = nat_le (version_number least) (version_number v)
+abbrev pub includes : Version → Version → Bool
+includes v least = nat_le (version_number least) (version_number v)
 
 -- a property of the least version, if the fault contains that
 abbrev pub IfTooLow : PutFault → (Version → Type 0) → Type 0
@@ -37,7 +37,7 @@ IfTooLow OutOfMemory P = ⊤
 
 -- the text of the nodes' journals in a version, before its end
 abbrev pub text_begun : Version → List Journal → List ℕ
-text_begun v journals = flat_map ended (version_line v ∷ lines_from v 0 journals)
+text_begun v journals = flat_map ended (version_line v ∷ journal_lines_from v 0 journals)
 
 -- the whole text
 abbrev pub text_in : Version → List Journal → List ℕ

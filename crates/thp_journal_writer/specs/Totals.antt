@@ -46,9 +46,9 @@ abbrev pub totals_lines : ℕ → Totals → List ℕ
 totals_lines n t = nine_lines n t ++ tenth_line t.thp_underused_split_page
 
 -- the lines of nodes that are numbered from n
-abbrev pub lines_from : ℕ → List Totals → List ℕ
-lines_from n [] = []
-lines_from n (totals ∷ more) = totals_lines n totals ++ lines_from (n + 1) more
+abbrev pub totals_lines_from : ℕ → List Totals → List ℕ
+totals_lines_from n [] = []
+totals_lines_from n (totals ∷ more) = totals_lines n totals ++ totals_lines_from (n + 1) more
 
 -- the totals of a node with its shape and its history
 abbrev pub totals_in : Shape × History → Totals
@@ -56,4 +56,4 @@ totals_in node = totals_of node.0 node.1
 
 -- the totals of all nodes as text, each with its shape and its history
 abbrev pub totals_text : List (Shape × History) → List ℕ
-totals_text nodes = lines_from 0 (map totals_in nodes)
+totals_text nodes = totals_lines_from 0 (map totals_in nodes)

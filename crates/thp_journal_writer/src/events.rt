@@ -1,7 +1,7 @@
 //! Appends events to a text, one line each.
 ghost use Rattle.std.specs.Prelude.{◌≡◌, [], ◌∷◌, ◌++◌, OnOk};
 ghost use Rattle.std.specs.Fmt.{decimal};
-ghost use Rattle.thp_journal_writer.specs.Prelude.{ended, event_line, event_page, line_of, outcome_room, outcome_word, set_text, what_words, Takes};
+ghost use Rattle.thp_journal_writer.specs.Prelude.{ended, event_line, event_page, spaced_line, outcome_room, outcome_word, set_text, what_words, Takes};
 
 use crate::numbers::{put, put_number};
 use crate::sets::put_set;
@@ -44,7 +44,7 @@ pub fn event_page(what: &What) -> Option<PageId>
 
 // the event, after the caller
 fn put_what(text: &mut Vec<u8>, what: &What) -> Result<(), AllocError>
-    ensures { OnOk result (text.new.items ≡ text.old.items ++ ended (line_of (what_words what.now))) }
+    ensures { OnOk result (text.new.items ≡ text.old.items ++ ended (spaced_line (what_words what.now))) }
 {
     match what {
         What::Alloc { page, .. } => put_page(text, b"alloc ", *page),
@@ -121,7 +121,7 @@ fn put_range(
     count: u32,
     after: u8,
 ) -> Result<(), AllocError>
-    ensures { OnOk result (text.new.items ≡ text.old.items ++ name.now ++ line_of (decimal page ∷ decimal first ∷ decimal count ∷ []) ++ after ∷ []) }
+    ensures { OnOk result (text.new.items ≡ text.old.items ++ name.now ++ spaced_line (decimal page ∷ decimal first ∷ decimal count ∷ []) ++ after ∷ []) }
 {
     put(text, name)?;
     put_number(text, page.0, b' ')?;
@@ -136,7 +136,7 @@ pub fn put_outcome(
     outcome: Outcome,
     released: &SubSet,
 ) -> Result<(), AllocError>
-    ensures text { OnOk result (text.new.items ≡ text.old.items ++ ended (line_of (outcome_word outcome ∷ set_text released.now ∷ []))) }
+    ensures text { OnOk result (text.new.items ≡ text.old.items ++ ended (spaced_line (outcome_word outcome ∷ set_text released.now ∷ []))) }
     ensures room { Takes outcome_room text.old text.new result }
 {
     match outcome {

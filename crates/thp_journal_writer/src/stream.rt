@@ -1,6 +1,6 @@
 //! Writes journals line by line, as the events happen.
 ghost use Rattle.std.specs.Prelude.{◌≡◌, ◌++◌, true, false, IfErr, OnOk, OnErr};
-ghost use Rattle.thp_journal_writer.specs.Prelude.{ended, event_line, node_line, shape_version, tells, what_version, EventFollows, IfTooLow, LeastVersionIsJournalText, NodeFollows, VersionComesFirst};
+ghost use Rattle.thp_journal_writer.specs.Prelude.{ended, event_line, node_line, shape_version, includes, what_version, EventFollows, IfTooLow, LeastVersionIsJournalText, NodeFollows, VersionComesFirst};
 ghost use Rattle.thp_journal_writer.specs.declared.stream.PutFault.TheVariants.{VersionTooLow, OutOfMemory};
 
 use crate::events::put_event_line;
@@ -17,8 +17,8 @@ pub fn put_node(
     shape: &Shape,
 ) -> Result<(), PutFault>
     ensures line { OnOk result (text.new.items ≡ text.old.items ++ ended (node_line version n shape.now)) }
-    ensures told { OnOk result (tells version (shape_version shape.now) ≡ true) }
-    ensures too_low { IfErr result (λ fault. IfTooLow fault (λ _. tells version (shape_version shape.now) ≡ false)) }
+    ensures reported { OnOk result (includes version (shape_version shape.now) ≡ true) }
+    ensures too_low { IfErr result (λ fault. IfTooLow fault (λ _. includes version (shape_version shape.now) ≡ false)) }
     ensures least { IfErr result (λ fault. IfTooLow fault (λ least. least ≡ shape_version shape.now)) }
     ensures unchanged { IfErr result (λ fault. IfTooLow fault (λ _. text.new.items ≡ text.old.items)) }
 {
@@ -32,8 +32,8 @@ pub fn put_node(
 /// Between any two lines the caller may take the bytes and clear the text.
 pub fn put_event(text: &mut Vec<u8>, version: Version, event: &Event) -> Result<(), PutFault>
     ensures line { OnOk result (text.new.items ≡ text.old.items ++ ended (event_line event.now)) }
-    ensures told { OnOk result (tells version (what_version event.now.what) ≡ true) }
-    ensures too_low { IfErr result (λ fault. IfTooLow fault (λ _. tells version (what_version event.now.what) ≡ false)) }
+    ensures reported { OnOk result (includes version (what_version event.now.what) ≡ true) }
+    ensures too_low { IfErr result (λ fault. IfTooLow fault (λ _. includes version (what_version event.now.what) ≡ false)) }
     ensures least { IfErr result (λ fault. IfTooLow fault (λ least. least ≡ what_version event.now.what)) }
     ensures unchanged { IfErr result (λ fault. IfTooLow fault (λ _. text.new.items ≡ text.old.items)) }
 {
@@ -45,11 +45,11 @@ pub fn put_event(text: &mut Vec<u8>, version: Version, event: &Event) -> Result<
 // a version that includes the least one
 #[inline(always)]
 fn expect_version(version: Version, least: Version) -> Result<(), PutFault>
-    ensures told { OnOk result (tells version least ≡ true) }
-    ensures too_low { OnErr result (tells version least ≡ false) }
+    ensures reported { OnOk result (includes version least ≡ true) }
+    ensures too_low { OnErr result (includes version least ≡ false) }
     ensures fault { IfErr result (λ fault. fault ≡ VersionTooLow least) }
 {
-    if version.tells(least) {
+    if version.includes(least) {
         Ok(())
     } else {
         Err(PutFault::VersionTooLow(least))

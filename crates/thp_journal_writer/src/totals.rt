@@ -1,6 +1,6 @@
 //! The totals of a node.
 ghost use Rattle.std.specs.Prelude.{◌≡◌, ◌++◌, OnOk};
-ghost use Rattle.thp_journal_writer.specs.Totals.{lines_from, nine_lines, number_line, totals_lines};
+ghost use Rattle.thp_journal_writer.specs.Totals.{nine_lines, number_line, totals_lines, totals_lines_from};
 
 use crate::numbers::put;
 use itoa::Buffer;
@@ -45,7 +45,7 @@ pub fn put_totals(text: &mut Vec<u8>, number: usize, totals: &Totals) -> Result<
 /// Appends the lines of nodes, which are numbered from 0, to a text. If memory can't be allocated, the text can contain a prefix
 /// of them.
 pub fn put_totals_of_each(text: &mut Vec<u8>, totals: &[Totals]) -> Result<(), AllocError>
-    ensures { OnOk result (text.new.items ≡ text.old.items ++ lines_from 0 totals.now) }
+    ensures { OnOk result (text.new.items ≡ text.old.items ++ totals_lines_from 0 totals.now) }
 {
     for (number, node) in totals.iter().enumerate() {
         put_totals(text, number, node)?;

@@ -1,6 +1,6 @@
 //! The version of the format for a journal.
 ghost use Rattle.std.specs.Prelude.{◌≡◌};
-ghost use Rattle.thp_journal_writer.specs.Prelude.{shape_version, tells, version_number, what_version};
+ghost use Rattle.thp_journal_writer.specs.Prelude.{includes, shape_version, version_number, what_version};
 
 use thp_history::{Shape, What};
 
@@ -52,8 +52,8 @@ impl Version {
     }
 
     /// Returns whether this version includes that one, that is, whether it is not an earlier one.
-    pub fn tells(self, least: Version) -> bool
-        ensures { result ≡ tells self least }
+    pub fn includes(self, least: Version) -> bool
+        ensures { result ≡ includes self least }
     {
         least.number() <= self.number()
     }

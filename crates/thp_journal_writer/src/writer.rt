@@ -3,7 +3,7 @@ ghost use Rattle.std.specs.Prelude.{◌≡◌, ◌+◌, [], ◌∷◌, ◌++◌,
 ghost use Rattle.std.specs.List.{flat_map, list_any, list_all};
 ghost use Rattle.std.specs.Fmt.{decimal};
 ghost use Rattle.thp_journal_writer.specs.Histories.{journal_of};
-ghost use Rattle.thp_journal_writer.specs.Journals.{journal_text as text_of, version_of, version_line, node_line, lines_of_node, underused_word, tells_underused, has_order_9, ended, is_access};
+ghost use Rattle.thp_journal_writer.specs.Journals.{journal_text as text_of, version_of, version_line, node_line, lines_of_node, underused_word, reports_underused, has_order_9, ended, is_access};
 
 use crate::events::put_event_line;
 use crate::numbers::{put, put_number};
@@ -33,7 +33,7 @@ pub fn journal_text(alloc: Global, nodes: &[NodeHistory<'_>]) -> Result<Vec<u8>,
 fn least_version(nodes: &[NodeHistory<'_>]) -> Version
     ensures { result ≡ version_of (map journal_of nodes.now) }
 {
-    if tell_underused(nodes) {
+    if report_underused(nodes) {
         Version::Underused
     } else if have_order_9(nodes) {
         Version::Plain
@@ -43,10 +43,10 @@ fn least_version(nodes: &[NodeHistory<'_>]) -> Version
 }
 
 // whether a node looks for underused pages, or writes to its pages were recorded
-fn tell_underused(nodes: &[NodeHistory<'_>]) -> bool
-    ensures { result ≡ list_any (λ node. tells_underused (journal_of node)) nodes.now }
+fn report_underused(nodes: &[NodeHistory<'_>]) -> bool
+    ensures { result ≡ list_any (λ node. reports_underused (journal_of node)) nodes.now }
 {
-    nodes.iter().any(|node| node.is_told_underused())
+    nodes.iter().any(|node| node.is_reported_underused())
 }
 
 // whether the pages of each node have order 9
@@ -142,8 +142,8 @@ pub struct NodeHistory<'a> {
 
 impl NodeHistory<'_> {
     // whether the node looks for underused pages, or writes to its pages were recorded
-    fn is_told_underused(&self) -> bool
-        ensures { result ≡ tells_underused (journal_of self.now) }
+    fn is_reported_underused(&self) -> bool
+        ensures { result ≡ reports_underused (journal_of self.now) }
     {
         self.shape.shrinks_underused() || has_access(self.events)
     }

@@ -8,7 +8,7 @@ use Rattle.thp_history.specs.declared.events.What.{What}
 use Rattle.thp_history.specs.declared.events.What.TheVariants.{Alloc, MapWhole, UnmapWhole, MapSub, UnmapSub, SplitPmd, Pin, Unpin, Write, Zero, Taken, Split, Pinned, Used, Back, Dropped, Close}
 use Rattle.thp_history.specs.Prelude.{event_with, with_block, by, loss_what}
 use Rattle.thp_script.specs.declared.fault.TextKind.TheVariants.{BadByte, BadNumber, BadWord}
-use Rattle.thp_script.specs.Prelude.{number_up_to, is_empty, is_printable, ◌>>=◌, Text, words_of}
+use Rattle.thp_script.specs.Prelude.{number_up_to, is_empty, is_printable, ◌>>=◌, Text, words_in_line}
 use Rattle.thp_script.proofs.NumberLaws.{number_of-decimal}
 use Rattle.thp_journal_writer.specs.EventLines as written
 use Rattle.thp_journal_writer.specs.Prelude.{event_words, outcome_word, what_words, HasSmallNumbers, set_text}
@@ -19,26 +19,26 @@ use Rattle.thp_journal_reader.specs.declared.event_line.PageWord.{PageWord}
 use Rattle.thp_journal_reader.specs.declared.event_line.RangeWord.{RangeWord}
 use Rattle.thp_journal_reader.specs.declared.line.Line.TheVariants.{Happened}
 use Rattle.thp_journal_writer.specs.declared.version.Version.{Version}
-use Rattle.thp_journal_reader.specs.Prelude.{caller_number, page_number, range_number, page_event, range_event, loss_event, unmap_event, split_event, close_event, outcome_and_word, event_by, event_of, common_word, later_word, event_word, outcome_of, page_what, range_what, line_by, by_words}
+use Rattle.thp_journal_reader.specs.Prelude.{caller_number, page_number, range_number, page_event, range_event, loss_event, unmap_event, split_event, close_event, outcome_and_word, event_by, event_of, common_word, later_word, event_word, outcome_of, page_what, range_what, line_by, line_by_words}
 use Rattle.thp_journal_reader.specs.JournalLines as read
-use Rattle.thp_laws.specs.Tellable.{IsOfVersion, IsTellable}
+use Rattle.thp_laws.specs.Reportable.{IsOfVersion, IsReportable}
 use Rattle.thp_laws.proofs.PlainWords.{decimal_plain, is_plain, line_printable, no_number, none_empty, words_back}
 use Rattle.thp_laws.proofs.SetsBack.{set_back, set_plain}
 
 -- a line of plain words says what its words say
-pub line_of_words : (v : Version) (name : Text) (words : List Text) → list_all is_plain (name ∷ words) ≡ true → read.line_of v (written.line_of (name ∷ words)) ≡ line_by v name words
+pub line_of_words : (v : Version) (name : Text) (words : List Text) → list_all is_plain (name ∷ words) ≡ true → read.line_of v (written.spaced_line (name ∷ words)) ≡ line_by v name words
 unfolding read.line_of
 line_of_words v name words plain =
-    let line : Text = written.line_of (name ∷ words) in
+    let line : Text = written.spaced_line (name ∷ words) in
     let printable : list_all is_printable line ≡ true = line_printable (name ∷ words) plain in
-    let back : words_of line ≡ name ∷ words = words_back name words plain in
-    let some : list_any is_empty (words_of line) ≡ false = ap (list_any is_empty) back ∙ none_empty (name ∷ words) plain in
-    ap (λ b. cond (not b) (Err BadByte) (cond (list_any is_empty (words_of line)) (Err BadWord) (by_words v (words_of line)))) printable
-    ∙ ap (λ b. cond b (Err BadWord) (by_words v (words_of line))) some
-    ∙ ap (by_words v) back
+    let back : words_in_line line ≡ name ∷ words = words_back name words plain in
+    let some : list_any is_empty (words_in_line line) ≡ false = ap (list_any is_empty) back ∙ none_empty (name ∷ words) plain in
+    ap (λ b. cond (not b) (Err BadByte) (cond (list_any is_empty (words_in_line line)) (Err BadWord) (line_by_words v (words_in_line line)))) printable
+    ∙ ap (λ b. cond b (Err BadWord) (line_by_words v (words_in_line line))) some
+    ∙ ap (line_by_words v) back
 
--- a line that begins with a number tells an event
-line_by_number : (v : Version) (n : ℕ) (words : List Text) → n < 2 ^ 64 → line_by v (decimal n) words ≡ read.event_line v (decimal n) words
+-- a line that begins with a number reports an event
+line_by_number : (v : Version) (n : ℕ) (words : List Text) → n < 2 ^ 64 → line_by v (decimal n) words ≡ read.parsed_event_line v (decimal n) words
 unfolding line_by
 line_by_number v n words lt = grind (arith, no_number)
 
@@ -76,17 +76,17 @@ ending_back o word = rw (outcome_back o) refl
 
 -- ---- events, by the words behind their name
 
--- an event that tells a page alone
+-- an event that names a page alone
 page_event_back : (name : PageWord) (c p : ℕ) → c < 64 → p < 2 ^ 64 → page_event name (decimal c) (decimal p ∷ []) ≡ Ok (by c (page_what name p))
 unfolding page_event
 page_event_back name c p small lt = rw (caller_back c small, page_back p lt) refl
 
--- one that tells a range of its subpages
+-- one that names a range of its subpages
 range_event_back : (name : RangeWord) (c p first count : ℕ) → c < 64 → p < 2 ^ 64 → first < 2 ^ 16 → count < 2 ^ 16 → range_event name (decimal c) (decimal p ∷ decimal first ∷ decimal count ∷ []) ≡ Ok (by c (range_what name p first count))
 unfolding range_event
 range_event_back name c p first count small lt low high = rw (caller_back c small, page_back p lt, range_back first low, range_back count high) refl
 
--- one that tells what became of the page and what it gave back
+-- one that states what became of the page and what it gave back
 loss_event_back : (name : Loss) (o : Outcome) (c p : ℕ) (set : List Bool) → c < 64 → p < 2 ^ 64 → length set ≡ 512 → loss_event name (decimal c) (decimal p ∷ outcome_word o ∷ set_text set ∷ []) ≡ Ok (by c (loss_what name p o set))
 unfolding loss_event
 loss_event_back name o c p set small lt full = rw (ending_back o (set_text set), caller_back c small, page_back p lt, set_back set full) refl
@@ -164,12 +164,12 @@ what_plain (Dropped p) fit = page_plain (codes "dropped") p refl fit
 what_plain Close fit = refl
 
 -- those of an event
-pub event_plain : (v : Version) (e : Event) → IsTellable v e → list_all is_plain (event_words e) ≡ true
+pub event_plain : (v : Version) (e : Event) → IsReportable v e → list_all is_plain (event_words e) ≡ true
 unfolding event_words
 event_plain v e t = let small = t.caller in and_from _ _ (decimal_plain e.caller (omega arith)) (what_plain e.what t.numbers)
 
--- an event's line tells that event, but for its block
-pub event_line_back : (v : Version) (e : Event) → IsTellable v e → read.line_of v (written.event_line e) ≡ Ok (Happened (event_with 0 e))
+-- an event's line reports that event, but for its block
+pub event_line_back : (v : Version) (e : Event) → IsReportable v e → read.line_of v (written.event_line e) ≡ Ok (Happened (event_with 0 e))
 unfolding written.event_line event_words
 event_line_back v e t =
     let small = t.caller in

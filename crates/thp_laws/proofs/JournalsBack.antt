@@ -17,11 +17,11 @@ use Rattle.thp_journal_reader.specs.declared.line.Place.TheVariants.{Start}
 use Rattle.thp_journal_writer.specs.declared.version.Version.{Version}
 use Rattle.thp_journal_reader.specs.Journals as reading
 use Rattle.thp_journal_reader.specs.Prelude.{node_journal, nodes_of, journals_with, journals_of, journals_within}
-use Rattle.thp_laws.specs.Tellable.{IsTellable, IsToldJournal}
+use Rattle.thp_laws.specs.Reportable.{IsReportable, IsReportedJournal}
 use Rattle.thp_laws.specs.ReadBack.{nodes_from}
 use Rattle.thp_laws.proofs.EventsBack.{event_plain}
 use Rattle.thp_laws.proofs.NodesBack.{node_plain, version_plain, version_words}
-use Rattle.thp_laws.proofs.LinesBack.{all_after, all_say, happened, node_told, nodes_told, read_all, told}
+use Rattle.thp_laws.proofs.LinesBack.{all_after, all_say, happened, node_reported, nodes_reported, read_all, reported}
 use Rattle.thp_laws.proofs.PlainWords.{line_whole}
 use Rattle.thp_laws.proofs.Splitting.{all_append, is_without, lines_back}
 
@@ -49,17 +49,17 @@ least_of_none s h = least_again s [] h
 
 -- lines behind a node's events: none, or one that isn't an event
 EndsEvents : List Line → Type 0
-EndsEvents lines = reading.events_of lines ≡ []
+EndsEvents lines = reading.node_events lines ≡ []
 
--- the events that lines tell, up to the next node
-events_back : (h : History) (rest : List Line) → EndsEvents rest → reading.events_of (map happened h ++ rest) ≡ map (event_with 0) h
+-- the events that lines report, up to the next node
+events_back : (h : History) (rest : List Line) → EndsEvents rest → reading.node_events (map happened h ++ rest) ≡ map (event_with 0) h
 unfolding EndsEvents happened
 events_back [] rest ends = ends
 events_back (e ∷ h) rest ends = ap (λ es. event_with 0 e ∷ es) (events_back h rest ends)
 
 -- the next node's line ends them, and so does the last line
-ends_at_node : (n : ℕ) (js : List Journal) → EndsEvents (nodes_told n js ++ End ∷ [])
-unfolding EndsEvents nodes_told node_told
+ends_at_node : (n : ℕ) (js : List Journal) → EndsEvents (nodes_reported n js ++ End ∷ [])
+unfolding EndsEvents nodes_reported node_reported
 ends_at_node n [] = refl
 ends_at_node n (j ∷ js) = refl
 
@@ -72,51 +72,51 @@ after_events line (e ∷ h) rest = after_events (line + 1) h rest ∙ ap (λ k. 
   one_later n k = omega arith
 
 -- a node and what stands behind it
-node_back : (line n : ℕ) (j : Journal) (rest : List Line) → EndsEvents rest → nodes_of line (node_told n j ++ rest) ≡ node_journal (line + 1) j.0 j.1 ∷ nodes_of (line + 1 + length j.1) rest
-unfolding node_told
+node_back : (line n : ℕ) (j : Journal) (rest : List Line) → EndsEvents rest → nodes_of line (node_reported n j ++ rest) ≡ node_journal (line + 1) j.0 j.1 ∷ nodes_of (line + 1 + length j.1) rest
+unfolding node_reported
 node_back line n j rest ends = grind (arith, happened, events_back, least_of_none, after_events)
 
 -- all nodes
-nodes_back : (line n : ℕ) (js : List Journal) → nodes_of line (nodes_told n js ++ End ∷ []) ≡ nodes_from line js
-unfolding nodes_told
+nodes_back : (line n : ℕ) (js : List Journal) → nodes_of line (nodes_reported n js ++ End ∷ []) ≡ nodes_from line js
+unfolding nodes_reported
 nodes_back line n [] = refl
 nodes_back line n (j ∷ js) =
-    ap (nodes_of line) (append_assoc (node_told n j) (nodes_told (n + 1) js) (End ∷ []))
-    ∙ node_back line n j (nodes_told (n + 1) js ++ End ∷ []) (ends_at_node (n + 1) js)
+    ap (nodes_of line) (append_assoc (node_reported n j) (nodes_reported (n + 1) js) (End ∷ []))
+    ∙ node_back line n j (nodes_reported (n + 1) js ++ End ∷ []) (ends_at_node (n + 1) js)
     ∙ ap (λ ns. node_journal (line + 1) j.0 j.1 ∷ ns) (nodes_back (line + 1 + length j.1) (n + 1) js)
 
 -- ---- the lines of a text
 
 -- an event's line has no line feed
-event_whole : (v : Version) (e : Event) → IsTellable v e → is_without 10 (written.event_line e) ≡ true
+event_whole : (v : Version) (e : Event) → IsReportable v e → is_without 10 (written.event_line e) ≡ true
 unfolding written.event_line
 event_whole v e t = line_whole (event_words e) (event_plain v e t)
 
 -- nor have those of a history
-events_whole : (v : Version) (h : History) → AllByRecursion (IsTellable v) h → list_all (is_without 10) (map written.event_line h) ≡ true
+events_whole : (v : Version) (h : History) → AllByRecursion (IsReportable v) h → list_all (is_without 10) (map written.event_line h) ≡ true
 events_whole v [] h = refl
 events_whole v (e ∷ events) h = and_from _ _ (event_whole v e h.0) (events_whole v events h.1)
 
 -- nor have those of a node
-node_whole : (v : Version) (n : ℕ) (j : Journal) → n < 8 → IsToldJournal v j → list_all (is_without 10) (lines_of_node v n j) ≡ true
+node_whole : (v : Version) (n : ℕ) (j : Journal) → n < 8 → IsReportedJournal v j → list_all (is_without 10) (lines_of_node v n j) ≡ true
 unfolding lines_of_node journal.node_line
 node_whole v n j few t = and_from _ _ (line_whole (journal.node_words v n j.0) (node_plain v n j.0 few t.shape)) (events_whole v j.1 t.events)
 
 -- nor those of nodes
-nodes_whole : (v : Version) (n : ℕ) (js : List Journal) → n + length js ≤ 8 → AllByRecursion (IsToldJournal v) js → list_all (is_without 10) (journal.lines_from v n js) ≡ true
+nodes_whole : (v : Version) (n : ℕ) (js : List Journal) → n + length js ≤ 8 → AllByRecursion (IsReportedJournal v) js → list_all (is_without 10) (journal.journal_lines_from v n js) ≡ true
 nodes_whole v n [] few h = refl
-nodes_whole v n (j ∷ js) few h = all_append (is_without 10) (lines_of_node v n j) (journal.lines_from v (n + 1) js) (node_whole v n j (omega arith) h.0) (nodes_whole v (n + 1) js (omega arith) h.1)
+nodes_whole v n (j ∷ js) few h = all_append (is_without 10) (lines_of_node v n j) (journal.journal_lines_from v (n + 1) js) (node_whole v n j (omega arith) h.0) (nodes_whole v (n + 1) js (omega arith) h.1)
 
 -- nor has the first line
 version_whole : (v : Version) → is_without 10 (journal.version_line v) ≡ true
 version_whole v = line_whole (version_words v) (version_plain v)
 
 -- a text's lines are those it was written of, and nothing stands behind them
-text_lines : (js : List Journal) → length js ≤ 8 → AllByRecursion (IsToldJournal ((version_of js))) js → lines_of (journal_text js) ≡ journal_lines js ++ [] ∷ []
+text_lines : (js : List Journal) → length js ≤ 8 → AllByRecursion (IsReportedJournal ((version_of js))) js → lines_of (journal_text js) ≡ journal_lines js ++ [] ∷ []
 unfolding journal_text journal_lines
 text_lines js few h =
     let v : Version = version_of js in
-    lines_back (journal_lines js) (and_from _ _ (version_whole v) (all_append (is_without 10) (journal.lines_from v 0 js) (codes "end" ∷ []) (nodes_whole v 0 js (omega arith) h) refl))
+    lines_back (journal_lines js) (and_from _ _ (version_whole v) (all_append (is_without 10) (journal.journal_lines_from v 0 js) (codes "end" ∷ []) (nodes_whole v 0 js (omega arith) h) refl))
 
 -- ---- the whole text
 
@@ -124,12 +124,12 @@ text_lines js few h =
 read : {A : Type 0} → A → Result A Fault
 read x = Ok x
 
--- the journals that a text's lines can tell are read back, but for their blocks
-pub text_back : (js : List Journal) → 0 < length js → length js ≤ 8 → AllByRecursion (IsToldJournal ((version_of js))) js → length (journal_text js) ≤ 16777216 → journals_of (journal_text js) ≡ Ok (record { nodes = nodes_from 2 js })
-unfolding journals_within journals_with journal_lines told read
+-- the journals that a text's lines can state are read back, but for their blocks
+pub text_back : (js : List Journal) → 0 < length js → length js ≤ 8 → AllByRecursion (IsReportedJournal ((version_of js))) js → length (journal_text js) ≤ 16777216 → journals_of (journal_text js) ≡ Ok (record { nodes = nodes_from 2 js })
+unfolding journals_within journals_with journal_lines reported read
 text_back js some few h short =
     let v : Version = version_of js in
-    let lines : reading.lines_from 1 Start (lines_of (journal_text js)) ≡ Ok (told v js) = ap (reading.lines_from 1 Start) (text_lines js few h) ∙ read_all 1 v Start (journal_lines js) (told v js) (all_say v js some few h) (all_after v js) in
+    let lines : reading.lines_from 1 Start (lines_of (journal_text js)) ≡ Ok (reported v js) = ap (reading.lines_from 1 Start) (text_lines js few h) ∙ read_all 1 v Start (journal_lines js) (reported v js) (all_say v js some few h) (all_after v js) in
     let fits : nat_lt 16777216 (length (journal_text js)) ≡ false = le-ltb _ _ short in
-    let nodes : nodes_of 1 (told v js) ≡ nodes_from 2 js = nodes_back 2 0 js in
+    let nodes : nodes_of 1 (reported v js) ≡ nodes_from 2 js = nodes_back 2 0 js in
     rw (fits, lines) (ap (λ ns. read (record { nodes = ns })) nodes)

@@ -15,9 +15,9 @@ use Rattle.thp_journal_reader.specs.declared.line.Place.{Place}
 use Rattle.thp_journal_reader.specs.declared.line.Place.TheVariants.{Start, Inside, Ended}
 use Rattle.thp_journal_writer.specs.declared.version.Version.{Version}
 use Rattle.thp_journal_reader.specs.JournalLines as read
-use Rattle.thp_journal_reader.specs.Prelude.{line_in, may_stand, place_after, version_at}
+use Rattle.thp_journal_reader.specs.Prelude.{line_in, line_may_stand, place_after, version_at}
 use Rattle.thp_journal_reader.specs.Journals as reading
-use Rattle.thp_laws.specs.Tellable.{IsTellable, IsToldJournal}
+use Rattle.thp_laws.specs.Reportable.{IsReportable, IsReportedJournal}
 use Rattle.thp_laws.proofs.EventsBack.{event_line_back}
 use Rattle.thp_laws.proofs.NodesBack.{end_line_back, node_line_back, version_line_back}
 
@@ -50,7 +50,7 @@ after_append place [] more = refl
 after_append place (line ∷ lines) more = after_append (place_after place line) lines more
 
 -- a line that may stand in its place
-stands : (place : Place) (text : Text) (line : Line) → read.line_of (version_at place) text ≡ Ok line → may_stand place line ≡ true → line_in place text ≡ Ok line
+stands : (place : Place) (text : Text) (line : Line) → read.line_of (version_at place) text ≡ Ok line → line_may_stand place line ≡ true → line_in place text ≡ Ok line
 unfolding line_in
 stands place text line is may = rw (is, may) refl
 
@@ -83,21 +83,21 @@ inside v n = Inside v n
 one_later : (n k : ℕ) → n + 1 + k ≡ n + suc k
 one_later n k = omega arith
 
--- what an event's line tells
+-- what an event's line reports
 unfoldable pub happened : Event → Line
 happened e = Happened (event_with 0 e)
 
--- the lines that tell a node and its events
-unfoldable pub node_told : ℕ → Journal → List Line
-node_told n j = Node n j.0 ∷ map happened j.1
+-- the lines of a node and its events
+unfoldable pub node_reported : ℕ → Journal → List Line
+node_reported n j = Node n j.0 ∷ map happened j.1
 
--- those that tell nodes from number n on
-unfoldable pub nodes_told : ℕ → List Journal → List Line
-nodes_told n [] = []
-nodes_told n (j ∷ js) = node_told n j ++ nodes_told (n + 1) js
+-- those of nodes from number n on
+unfoldable pub nodes_reported : ℕ → List Journal → List Line
+nodes_reported n [] = []
+nodes_reported n (j ∷ js) = node_reported n j ++ nodes_reported (n + 1) js
 
 -- the events of a node
-events_say : (v : Version) (nodes : ℕ) (h : History) → 0 < nodes → AllByRecursion (IsTellable v) h → Says (Inside v nodes) (map written.event_line h) (map happened h)
+events_say : (v : Version) (nodes : ℕ) (h : History) → 0 < nodes → AllByRecursion (IsReportable v) h → Says (Inside v nodes) (map written.event_line h) (map happened h)
 unfolding Says happened
 events_say v nodes [] some h = tt
 events_say v nodes (e ∷ events) some h = (stands (Inside v nodes) (written.event_line e) (happened e) (event_line_back v e h.0) (lt-ltb 0 nodes some), events_say v nodes events some h.1)
@@ -109,51 +109,51 @@ events_after place [] = refl
 events_after place (e ∷ h) = events_after place h
 
 -- a node
-node_says : (v : Version) (n : ℕ) (j : Journal) → n < 8 → IsToldJournal v j → Says (Inside v n) (lines_of_node v n j) (node_told n j)
-unfolding Says node_told lines_of_node
-node_says v n j few told = (stands (Inside v n) (journal.node_line v n j.0) (Node n j.0) (node_line_back v n j.0 few told.shape told.tells_shape) (eq-eqb n n refl), events_say v (n + 1) j.1 (omega arith) told.events)
+node_says : (v : Version) (n : ℕ) (j : Journal) → n < 8 → IsReportedJournal v j → Says (Inside v n) (lines_of_node v n j) (node_reported n j)
+unfolding Says node_reported lines_of_node
+node_says v n j few reported = (stands (Inside v n) (journal.node_line v n j.0) (Node n j.0) (node_line_back v n j.0 few reported.shape reported.reports_shape) (eq-eqb n n refl), events_say v (n + 1) j.1 (omega arith) reported.events)
 
 -- a node is one more
-node_after : (v : Version) (n : ℕ) (j : Journal) → place_following (Inside v n) (node_told n j) ≡ Inside v (n + 1)
-unfolding place_following node_told
+node_after : (v : Version) (n : ℕ) (j : Journal) → place_following (Inside v n) (node_reported n j) ≡ Inside v (n + 1)
+unfolding place_following node_reported
 node_after v n j = events_after (Inside v (n + 1)) j.1
 
 -- nodes
-nodes_say : (v : Version) (n : ℕ) (js : List Journal) → n + length js ≤ 8 → AllByRecursion (IsToldJournal v) js → Says (Inside v n) (journal.lines_from v n js) (nodes_told n js)
-unfolding Says nodes_told
-nodes_say v n [] few told = tt
-nodes_say v n (j ∷ js) few told =
-    says_append (Inside v n) (lines_of_node v n j) (journal.lines_from v (n + 1) js) (node_told n j) (nodes_told (n + 1) js) (node_says v n j (omega arith) told.0)
-    (subst (λ p. Says p (journal.lines_from v (n + 1) js) (nodes_told (n + 1) js)) (sym (node_after v n j)) (nodes_say v (n + 1) js (omega arith) told.1))
+nodes_say : (v : Version) (n : ℕ) (js : List Journal) → n + length js ≤ 8 → AllByRecursion (IsReportedJournal v) js → Says (Inside v n) (journal.journal_lines_from v n js) (nodes_reported n js)
+unfolding Says nodes_reported
+nodes_say v n [] few reported = tt
+nodes_say v n (j ∷ js) few reported =
+    says_append (Inside v n) (lines_of_node v n j) (journal.journal_lines_from v (n + 1) js) (node_reported n j) (nodes_reported (n + 1) js) (node_says v n j (omega arith) reported.0)
+    (subst (λ p. Says p (journal.journal_lines_from v (n + 1) js) (nodes_reported (n + 1) js)) (sym (node_after v n j)) (nodes_say v (n + 1) js (omega arith) reported.1))
 
 -- and the place behind them
-nodes_after : (v : Version) (n : ℕ) (js : List Journal) → place_following (Inside v n) (nodes_told n js) ≡ Inside v (n + length js)
-unfolding nodes_told place_following inside
+nodes_after : (v : Version) (n : ℕ) (js : List Journal) → place_following (Inside v n) (nodes_reported n js) ≡ Inside v (n + length js)
+unfolding nodes_reported place_following inside
 nodes_after v n [] = ap (λ k. inside v k) (sym (add-zero n))
 nodes_after v n (j ∷ js) =
-    after_append (Inside v n) (node_told n j) (nodes_told (n + 1) js)
-    ∙ ap (λ p. place_following p (nodes_told (n + 1) js)) (node_after v n j)
+    after_append (Inside v n) (node_reported n j) (nodes_reported (n + 1) js)
+    ∙ ap (λ p. place_following p (nodes_reported (n + 1) js)) (node_after v n j)
     ∙ nodes_after v (n + 1) js
     ∙ ap (λ k. inside v k) (one_later n (length js))
 
 -- ---- whole journals
 
 -- all lines
-unfoldable pub told : Version → List Journal → List Line
-told v js = Head v ∷ nodes_told 0 js ++ End ∷ []
+unfoldable pub reported : Version → List Journal → List Line
+reported v js = Head v ∷ nodes_reported 0 js ++ End ∷ []
 
--- each line of a journal text says what it tells, where it stands
-pub all_say : (v : Version) (js : List Journal) → 0 < length js → length js ≤ 8 → AllByRecursion (IsToldJournal v) js → Says Start (journal.version_line v ∷ journal.lines_from v 0 js ++ codes "end" ∷ []) (told v js)
-unfolding Says told
+-- each line of a journal text says what it reports, where it stands
+pub all_say : (v : Version) (js : List Journal) → 0 < length js → length js ≤ 8 → AllByRecursion (IsReportedJournal v) js → Says Start (journal.version_line v ∷ journal.journal_lines_from v 0 js ++ codes "end" ∷ []) (reported v js)
+unfolding Says reported
 all_say v js some few h =
     let w : Version = v in
-    let behind : place_following (Inside w 0) (nodes_told 0 js) ≡ Inside w (0 + length js) = nodes_after w 0 js in
+    let behind : place_following (Inside w 0) (nodes_reported 0 js) ≡ Inside w (0 + length js) = nodes_after w 0 js in
     let last : Says (Inside w (0 + length js)) (codes "end" ∷ []) (End ∷ []) = (stands (Inside w (0 + length js)) (codes "end") End (end_line_back w) (lt-ltb 0 (0 + length js) (omega arith)), tt) in (
       stands Start (journal.version_line v) (Head w) (version_line_back v) refl,
-      says_append (Inside w 0) (journal.lines_from v 0 js) (codes "end" ∷ []) (nodes_told 0 js) (End ∷ []) (nodes_say v 0 js (omega arith) h) (subst (λ p. Says p (codes "end" ∷ []) (End ∷ [])) (sym behind) last),
+      says_append (Inside w 0) (journal.journal_lines_from v 0 js) (codes "end" ∷ []) (nodes_reported 0 js) (End ∷ []) (nodes_say v 0 js (omega arith) h) (subst (λ p. Says p (codes "end" ∷ []) (End ∷ [])) (sym behind) last),
     )
 
 -- and the last stands at the end
-pub all_after : (v : Version) (js : List Journal) → place_following Start (told v js) ≡ Ended v
-unfolding place_following told
+pub all_after : (v : Version) (js : List Journal) → place_following Start (reported v js) ≡ Ended v
+unfolding place_following reported
 all_after v js = grind (arith, after_append, place_following, nodes_after)

@@ -15,8 +15,8 @@ use Rattle.thp_journal_reader.specs.declared.line.Line.TheVariants.{Head, Node, 
 use Rattle.thp_journal_writer.specs.declared.version.Version.{Version}
 use Rattle.thp_journal_writer.specs.declared.version.Version.TheVariants.{Plain, Orders, Underused}
 use Rattle.thp_journal_reader.specs.JournalLines as read
-use Rattle.thp_journal_reader.specs.Prelude.{by_words, line_by, head_of, number_between, threshold_of, node_with, plain_node, ordered_node, underused_node}
-use Rattle.thp_laws.specs.Tellable.{IsToldShape}
+use Rattle.thp_journal_reader.specs.Prelude.{line_by_words, line_by, head_of, number_between, node_threshold_of, node_with, plain_node, ordered_node, underused_node}
+use Rattle.thp_laws.specs.Reportable.{IsReportedShape}
 use Rattle.thp_laws.proofs.PlainWords.{decimal_plain, is_plain, no_number}
 use Rattle.thp_laws.proofs.EventsBack.{line_of_words, number_back}
 
@@ -34,14 +34,14 @@ version_plain v = rw (decimal_plain (journal.version_number v) (small_version v)
 
 -- the version by its number
 head_said : (v : Version) → line_by Plain (codes "thp-journal") (decimal (journal.version_number v) ∷ []) ≡ Ok (Head v)
-unfolding line_by head_of read.version_of
+unfolding line_by head_of read.parsed_version
 head_said x = grind (arith, decimal_digit)
 
--- the first line tells the version
+-- the first line states the version
 pub version_line_back : (v : Version) → read.line_of Plain (journal.version_line v) ≡ Ok (Head v)
 version_line_back v = line_of_words Plain (codes "thp-journal") (decimal (journal.version_number v) ∷ []) (version_plain v) ∙ head_said v
 
--- the last line tells the end
+-- the last line states the end
 pub end_line_back : (v : Version) → read.line_of v (codes "end") ≡ Ok End
 unfolding line_by
 end_line_back v = line_of_words v (codes "end") [] refl
@@ -65,19 +65,19 @@ order_back : (order : ℕ) → 2 ≤ order → order ≤ 9 → number_between 2 
 order_back order low high = between_back 2 9 order low high (omega arith)
 
 -- a threshold, or none
-threshold_back : (order : ℕ) (underused : Option ℕ) → order ≤ 9 → ((t : ℕ) → underused ≡ Some t → t < 2 ^ order) → threshold_of order (underused_word underused) ≡ Ok underused
-unfolding threshold_of
+threshold_back : (order : ℕ) (underused : Option ℕ) → order ≤ 9 → ((t : ℕ) → underused ≡ Some t → t < 2 ^ order) → node_threshold_of order (underused_word underused) ≡ Ok underused
+unfolding node_threshold_of
 threshold_back order x high low = grind (arith, pow_mono, no_number, number_back)
 
--- the shape that the line told is the node's
+-- the shape that the line reported is the node's
 same_shape : (n order : ℕ) (s : Shape) (underused : Option ℕ) → s.order ≡ order → s.underused ≡ underused → said (Node n (record { blocks = s.blocks; order = order; underused = underused })) ≡ said (Node n s)
 unfolding said
 same_shape n order s underused e f = rw (← e, ← f) refl
 
 -- node n of this shape, by its words
-node_said : (v : Version) (n : ℕ) (s : Shape) → n < 8 → IsShape s → IsToldShape v s → by_words v (node_words v n s) ≡ Ok (Node n s)
+node_said : (v : Version) (n : ℕ) (s : Shape) → n < 8 → IsShape s → IsReportedShape v s → line_by_words v (node_words v n s) ≡ Ok (Node n s)
 unfolding line_by plain_node ordered_node underused_node said subpages
-node_said x n s few is told = grind (arith, node_with_back, same_shape, order_back, threshold_back)
+node_said x n s few is reported = grind (arith, node_with_back, same_shape, order_back, threshold_back)
 
 -- the word of a threshold is plain
 underused_plain : (s : Shape) → IsShape s → is_plain (underused_word s.underused) ≡ true
@@ -88,11 +88,11 @@ underused_plain s is = grind (arith, is_plain, pow_mono, decimal_plain)
 pub node_plain : (v : Version) (n : ℕ) (s : Shape) → n < 8 → IsShape s → list_all is_plain (node_words v n s) ≡ true
 node_plain v n s few is = grind (arith, is_plain, decimal_plain, underused_plain)
 
--- the line of a node tells its number and its shape
-pub node_line_back : (v : Version) (n : ℕ) (s : Shape) → n < 8 → IsShape s → IsToldShape v s → read.line_of v (journal.node_line v n s) ≡ Ok (Node n s)
+-- the line of a node states its number and its shape
+pub node_line_back : (v : Version) (n : ℕ) (s : Shape) → n < 8 → IsShape s → IsReportedShape v s → read.line_of v (journal.node_line v n s) ≡ Ok (Node n s)
 unfolding journal.node_line
-node_line_back v n s few is told = by_version v (node_plain v n s few is) (node_said v n s few is told) where
-  by_version : (v : Version) → list_all is_plain (node_words v n s) ≡ true → by_words v (node_words v n s) ≡ Ok (Node n s) → read.line_of v (written.line_of (node_words v n s)) ≡ Ok (Node n s)
+node_line_back v n s few is reported = by_version v (node_plain v n s few is) (node_said v n s few is reported) where
+  by_version : (v : Version) → list_all is_plain (node_words v n s) ≡ true → line_by_words v (node_words v n s) ≡ Ok (Node n s) → read.line_of v (written.spaced_line (node_words v n s)) ≡ Ok (Node n s)
   by_version Plain plain is = line_of_words Plain (codes "node") _ plain ∙ is
   by_version Orders plain is = line_of_words Orders (codes "node") _ plain ∙ is
   by_version Underused plain is = line_of_words Underused (codes "node") _ plain ∙ is

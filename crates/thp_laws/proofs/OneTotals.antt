@@ -6,16 +6,16 @@ use Rattle.thp_history.specs.Prelude.{History}
 use Rattle.thp_journal_writer.specs.Prelude.{Journal}
 use Rattle.thp_laws.specs.SameTotals.{IsSameJournal}
 use Rattle.thp_laws.proofs.TotalsAlike.{one_run}
-use Rattle.thp_run.specs.Laws.{bare}
+use Rattle.thp_run.specs.Laws.{bare_journal}
 use Rattle.thp_run.proofs.TotalsLaws.{totals_blind}
 use Rattle.thp_laws.specs.OneText.{OneJournalHasOneTotals}
 
 -- two nodes that are the same but for their blocks
-node_bare : (j k : Journal) → IsSameJournal j k → bare j ≡ bare k
+node_bare : (j k : Journal) → IsSameJournal j k → bare_journal j ≡ bare_journal k
 node_bare j k same = ap₂ (λ (s : Shape) (h : History). let n : Journal = (s, h) in n) same.shape same.events
 
 -- nodes that are the same but for their blocks are equal without them
-pub all_bare : (js ks : List Journal) → AllZip IsSameJournal js ks → map bare js ≡ map bare ks
+pub all_bare : (js ks : List Journal) → AllZip IsSameJournal js ks → map bare_journal js ≡ map bare_journal ks
 all_bare [] [] h = refl
 all_bare [] (k ∷ ks) h = absurd h
 all_bare (j ∷ js) [] h = absurd h

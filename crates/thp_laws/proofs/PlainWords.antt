@@ -5,7 +5,7 @@ use Rattle.std.specs.List.{list_all, list_any, join_with_byte}
 use Rattle.std.proofs.lemmas.Bool.{and_parts, and_from, not_from_false, false_from_ne_true, ne_eqb, leb-true, le-leb}
 use Rattle.std.proofs.lemmas.Fmt.{digits_decimal, decimal_nonempty}
 use Rattle.std.proofs.lemmas.Slice.Eq.{bytes_eq-Decides}
-use Rattle.thp_script.specs.Prelude.{is_empty, is_printable, Text, words_of}
+use Rattle.thp_script.specs.Prelude.{is_empty, is_printable, Text, words_in_line}
 use Rattle.thp_script.proofs.NumberLaws.{digits}
 use Rattle.thp_laws.proofs.Splitting.{all_wider, is_without, joined, all_joined}
 
@@ -50,7 +50,7 @@ plain_printable : (word : Text) → is_plain word ≡ true → list_all is_print
 plain_printable word h = all_wider is_solid is_printable solid_printable word (plain_solid word h)
 
 -- a line of plain words has those words
-pub words_back : (word : Text) (words : List Text) → list_all is_plain (word ∷ words) ≡ true → words_of (join_with_byte 32 (word ∷ words)) ≡ word ∷ words
+pub words_back : (word : Text) (words : List Text) → list_all is_plain (word ∷ words) ≡ true → words_in_line (join_with_byte 32 (word ∷ words)) ≡ word ∷ words
 words_back word words h = grind (arith, and_parts, joined, plain_apart, all_wider, is_without)
 
 -- it is printable

@@ -13,11 +13,11 @@ use Rattle.thp_journal_writer.specs.Prelude.{Journal, version_of, lines_of_node,
 use Rattle.thp_journal_reader.specs.declared.journals.ReadNode.{ReadNode}
 use Rattle.thp_journal_reader.specs.Prelude.{IsLegalNode, ReportsIllegal, node_journal}
 use Rattle.thp_journal_writer.specs.declared.version.Version.{Version}
-use Rattle.thp_laws.specs.ReadBack.{IsJournal, IsSameNode, nodes_from, TextsAreReadBack, TextsAreCalledLegal, NothingElseChanges, WhatIsReadIsLegal}
-use Rattle.thp_laws.specs.Tellable.{IsTellable, IsToldJournal}
+use Rattle.thp_laws.specs.ReadBack.{IsReadable, IsSameNode, nodes_from, TextsAreReadBack, TextsAreCalledLegal, NothingElseChanges, WhatIsReadIsLegal}
+use Rattle.thp_laws.specs.Reportable.{IsReportable, IsReportedJournal}
 use Rattle.thp_laws.proofs.JournalsBack.{text_back}
 use Rattle.thp_laws.proofs.LegalNumbers.{each_from_places, legal_numbers}
-use Rattle.thp_laws.proofs.LegalVersions.{IsToldBy, Legal, version_tells}
+use Rattle.thp_laws.proofs.LegalVersions.{IsReportedBy, Legal, version_reports}
 
 -- ---- a text has a byte for each event
 
@@ -27,11 +27,11 @@ each_ended [] = omega arith
 each_ended (line ∷ lines) = omega (arith, each_ended lines, length-append (journal.ended line) (flat_map journal.ended lines), length-append line (10 ∷ []))
 
 -- no node has more events than there are lines
-few_events : (v : Version) (n most : ℕ) (js : List Journal) → length (journal.lines_from v n js) ≤ most → AllByRecursion (λ (j : Journal). length j.1 ≤ most) js
+few_events : (v : Version) (n most : ℕ) (js : List Journal) → length (journal.journal_lines_from v n js) ≤ most → AllByRecursion (λ (j : Journal). length j.1 ≤ most) js
 unfolding lines_of_node
 few_events v n most [] short = tt
 few_events v n most (j ∷ js) short =
-    let both = length-append (lines_of_node v n j) (journal.lines_from v (n + 1) js) in
+    let both = length-append (lines_of_node v n j) (journal.journal_lines_from v (n + 1) js) in
     let own = length-map j.1 written.event_line in
     (omega arith, few_events v (n + 1) most js (omega arith))
 
@@ -41,10 +41,10 @@ unfolding journal_text journal_lines
 fewer_than_bytes js =
     let v : Version = version_of js in
     let whole = each_ended (journal_lines js) in
-    let two = length-append (journal.lines_from v 0 js) (codes "end" ∷ []) in
+    let two = length-append (journal.journal_lines_from v 0 js) (codes "end" ∷ []) in
     few_events v 0 (length (journal_text js)) js (omega arith)
 
--- ---- what the lines of a journal can tell
+-- ---- what the lines of a journal can state
 
 -- what holds of each holds at a place
 at_place : (P : Event → Type 0) (h : History) → All P h → (k : ℕ) (e : Event) → slice_get h k ≡ Some e → P e
@@ -54,25 +54,25 @@ at_place P h all k e at = go h (recursion_from_All P h all) k e at where
   go (x ∷ h) each zero e at = let same : x ≡ e = cc in subst P same each.0
   go (x ∷ h) each (suc k) e at = go h each.1 k e at
 
--- the events of a legal history, by a version that tells them
-tellable : (v : Version) (j : Journal) → IsJournal j → IsToldBy v j → length j.1 < 2 ^ 64 → IsToldJournal v j
-tellable v j is told few = record {
+-- the events of a legal history, by a version that has lines for them
+reportable : (v : Version) (j : Journal) → IsReadable j → IsReportedBy v j → length j.1 < 2 ^ 64 → IsReportedJournal v j
+reportable v j is reported few = record {
   shape = is.shape;
-  tells_shape = told.shape;
-  events = each_from_places (IsTellable v) j.1 (λ k e at. record {
+  reports_shape = reported.shape;
+  events = each_from_places (IsReportable v) j.1 (λ k e at. record {
     caller = at_place (λ (x : Event). x.caller < 64) j.1 is.callers k e at;
     numbers = legal_numbers j.0 j.1 is.shape is.legal few k e at;
-    version = told.events k e at;
+    version = reported.events k e at;
   });
 }
 
 -- the same of each journal
-each_tellable : (v : Version) (most : ℕ) (js : List Journal) → most < 2 ^ 64 → AllByRecursion IsJournal js → AllByRecursion (IsToldBy v) js → AllByRecursion (λ (j : Journal). length j.1 ≤ most) js → AllByRecursion (IsToldJournal v) js
-each_tellable v most [] lt is told few = tt
-each_tellable v most (j ∷ js) lt is told few = (tellable v j is.0 told.0 (let le = few.0 in omega arith), each_tellable v most js lt is.1 told.1 few.1)
+each_reportable : (v : Version) (most : ℕ) (js : List Journal) → most < 2 ^ 64 → AllByRecursion IsReadable js → AllByRecursion (IsReportedBy v) js → AllByRecursion (λ (j : Journal). length j.1 ≤ most) js → AllByRecursion (IsReportedJournal v) js
+each_reportable v most [] lt is reported few = tt
+each_reportable v most (j ∷ js) lt is reported few = (reportable v j is.0 reported.0 (let le = few.0 in omega arith), each_reportable v most js lt is.1 reported.1 few.1)
 
 -- each of them is legal
-each_legal : (js : List Journal) → AllByRecursion IsJournal js → AllByRecursion Legal js
+each_legal : (js : List Journal) → AllByRecursion IsReadable js → AllByRecursion Legal js
 each_legal [] is = tt
 each_legal (j ∷ js) is = (is.0.legal, each_legal js is.1)
 
@@ -81,9 +81,9 @@ each_legal (j ∷ js) is = (is.0.legal, each_legal js is.1)
 -- the text of journals is read as those journals, with the least blocks
 pub all_read_back : TextsAreReadBack
 all_read_back js are =
-    let each : AllByRecursion IsJournal js = recursion_from_All IsJournal js are.each in
+    let each : AllByRecursion IsReadable js = recursion_from_All IsReadable js are.each in
     let short = are.short in
-    text_back js are.some_nodes are.few_nodes (each_tellable ((version_of js)) (length (journal_text js)) js (omega arith) each (version_tells js (each_legal js each)) (fewer_than_bytes js)) are.short
+    text_back js are.some_nodes are.few_nodes (each_reportable ((version_of js)) (length (journal_text js)) js (omega arith) each (version_reports js (each_legal js each)) (fewer_than_bytes js)) are.short
 
 -- the nodes from a line on are those that were written
 same_from : (line : ℕ) (js : List Journal) → AllZip IsSameNode js (nodes_from line js)
@@ -95,7 +95,7 @@ pub all_same : NothingElseChanges
 all_same js = same_from 2 js
 
 -- and legal
-legal_from : (line : ℕ) (js : List Journal) → AllByRecursion IsJournal js → All (λ (node : ReadNode). IsLegal node.shape node.events) (nodes_from line js)
+legal_from : (line : ℕ) (js : List Journal) → AllByRecursion IsReadable js → All (λ (node : ReadNode). IsLegal node.shape node.events) (nodes_from line js)
 legal_from line [] is = All-nil (λ (node : ReadNode). IsLegal node.shape node.events)
 legal_from line (j ∷ js) is =
     All-cons (λ (node : ReadNode). IsLegal node.shape node.events) (node_journal (line + 1) j.0 j.1) (nodes_from (line + 1 + length j.1) js)
@@ -103,7 +103,7 @@ legal_from line (j ∷ js) is =
 
 -- what is read is legal
 pub all_legal : WhatIsReadIsLegal
-all_legal js are = legal_from 2 js (recursion_from_All IsJournal js are.each)
+all_legal js are = legal_from 2 js (recursion_from_All IsReadable js are.each)
 
 -- what holds of each node holds at a place
 node_at : (P : ReadNode → Type 0) (nodes : List ReadNode) (i : ℕ) (node : ReadNode) → AllByRecursion P nodes → slice_get nodes i ≡ Some node → P node
@@ -111,14 +111,14 @@ node_at P [] i node all e = absurd cc
 node_at P (x ∷ nodes) zero node all e = let same : x ≡ node = cc in subst P same all.0
 node_at P (x ∷ nodes) (suc i) node all e = node_at P nodes i node all.1 e
 
--- of legal nodes no line is told
+-- of legal nodes no line is reported
 no_line : (nodes : List ReadNode) (line : Option ℕ) → All IsLegalNode nodes → ReportsIllegal nodes line → line ≡ None
-no_line nodes None legal tells = refl
-no_line nodes (Some line) legal tells =
-    let node : IsLegalNode tells.node = node_at IsLegalNode nodes tells.place tells.node (recursion_from_All IsLegalNode nodes legal) tells.here in
-    let misfit = tells.first.misfit in
-    absurd (misfit.misfit.2 (node.each tells.first.place misfit.misfit.0 misfit.misfit.1))
+no_line nodes None legal reports = refl
+no_line nodes (Some line) legal reports =
+    let node : IsLegalNode reports.node = node_at IsLegalNode nodes reports.place reports.node (recursion_from_All IsLegalNode nodes legal) reports.here in
+    let misfit = reports.first.misfit in
+    absurd (misfit.misfit.2 (node.each reports.first.place misfit.misfit.0 misfit.misfit.1))
 
--- so a check of the text tells no line
+-- so a check of the text reports no line
 pub called_legal : TextsAreCalledLegal
-called_legal js read line are is tells = grind (arith, all_read_back, no_line, all_legal)
+called_legal js read line are is reports = grind (arith, all_read_back, no_line, all_legal)

@@ -54,27 +54,27 @@ does_event s h c what.Close is fits = (Ok reply.Unit, not_refused _ _ _ None Non
 
 -- a command has one step
 abbrev pub HasOneStep : Op → Type 0
-HasOneStep o = (told : List StepAnswer) (answer : Reaction) → TurnsOut o told answer → told ≡ record { step = One o; answer = answer } ∷ []
+HasOneStep o = (reported : List StepAnswer) (answer : Reaction) → TurnsOut o reported answer → reported ≡ record { step = One o; answer = answer } ∷ []
 
 -- the command of a call has one step
 call_step : (w : What) → OfCall HasOneStep (kind_of w)
-call_step (what.Alloc p b) = λ told answer t. t
-call_step (what.MapWhole p) = λ told answer t. t
-call_step (what.UnmapWhole o p set) = λ told answer t. t
-call_step (what.MapSub p first count) = λ told answer t. t
-call_step (what.UnmapSub o p first count set) = λ told answer t. t
-call_step (what.SplitPmd p) = λ told answer t. t
-call_step (what.Pin p) = λ told answer t. t
-call_step (what.Unpin o p set) = λ told answer t. t
-call_step (what.Write p first count) = λ told answer t. t
-call_step (what.Zero p first count) = λ told answer t. t
+call_step (what.Alloc p b) = λ reported answer t. t
+call_step (what.MapWhole p) = λ reported answer t. t
+call_step (what.UnmapWhole o p set) = λ reported answer t. t
+call_step (what.MapSub p first count) = λ reported answer t. t
+call_step (what.UnmapSub o p first count set) = λ reported answer t. t
+call_step (what.SplitPmd p) = λ reported answer t. t
+call_step (what.Pin p) = λ reported answer t. t
+call_step (what.Unpin o p set) = λ reported answer t. t
+call_step (what.Write p first count) = λ reported answer t. t
+call_step (what.Zero p first count) = λ reported answer t. t
 call_step (what.Taken p) = tt
 call_step (what.Split p set) = tt
 call_step (what.Pinned p) = tt
 call_step (what.Used p) = tt
 call_step (what.Back p) = tt
 call_step (what.Dropped p) = tt
-call_step what.Close = λ told answer t. t
+call_step what.Close = λ reported answer t. t
 
 module _ (w : What) (o : Op) (kind : kind_of w ≡ Call o) where
   pub does_call : (s : Shape) (h : History) (c : ℕ) → IsShape s → Fits s h (by c w) → DoesAlone s h c (by c w ∷ []) o

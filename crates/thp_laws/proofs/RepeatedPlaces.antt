@@ -17,25 +17,25 @@ use Rattle.thp_history.proofs.OnePlace.{once_flies, without_none}
 use Rattle.thp_history.proofs.Standing.{times, times-cons}
 use Rattle.thp_journal_scripts.specs.declared.folding.EventKind.{EventKind}
 use Rattle.thp_journal_scripts.specs.declared.folding.EventKind.TheVariants.{Call, Take}
-use Rattle.thp_journal_scripts.specs.Prelude.{pages_at, kind_of, once_ended, pages_after, place_of_call, place_of_put, place_of_take, place_of_try, scan_place, scan_place_after, scan_place_of, without_first, ScanPlace, Between, InTakes, Elsewhere}
+use Rattle.thp_journal_scripts.specs.Prelude.{pages_in_scan, kind_of, once_ended, pages_after, place_of_call, place_of_put, place_of_take, place_of_try, scan_place, scan_place_after, scan_place_of, pages_without, ScanPlace, Between, InTakes, Elsewhere}
 
 -- ---- the pages in flight
 
 -- these pages are in flight at the place, unless it is none of whole scans
 abbrev pub HasPages : ScanPlace → List ℕ → Type 0
 HasPages Elsewhere ps = ⊤
-HasPages s ps = pages_at s ≡ ps
+HasPages s ps = pages_in_scan s ≡ ps
 
 -- a page that stands once leaves as the first
-leaves_once : (p : ℕ) (ps : List ℕ) → times p ps ≤ 1 → without_first p ps ≡ without p ps
+leaves_once : (p : ℕ) (ps : List ℕ) → times p ps ≤ 1 → pages_without p ps ≡ without p ps
 leaves_once p [] once = refl
 leaves_once p (q ∷ ps) once = go (nat_eq q p) refl (leaves_once p ps) where
-  go : (b : Bool) → nat_eq q p ≡ b → (times p ps ≤ 1 → without_first p ps ≡ without p ps) → cond b ps (q ∷ without_first p ps) ≡ cond (not b) (q ∷ without p ps) (without p ps)
+  go : (b : Bool) → nat_eq q p ≡ b → (times p ps ≤ 1 → pages_without p ps ≡ without p ps) → cond b ps (q ∷ pages_without p ps) ≡ cond (not b) (q ∷ without p ps) (without p ps)
   go true e rest = sym (without_none p ps (omega (arith, once, times-cons p q ps, ap (λ b. cond {A = ℕ} b 1 0) e)))
   go false e rest = ap (λ qs. q ∷ qs) (rest (omega (arith, once, times-cons p q ps, ap (λ b. cond {A = ℕ} b 1 0) e)))
 
 -- what a caller does to its own flight
-own_leaves : (c p : ℕ) (ps : List ℕ) → times p ps ≤ 1 → without_first p ps ≡ cond (nat_eq c c) (without p ps) ps
+own_leaves : (c p : ℕ) (ps : List ℕ) → times p ps ≤ 1 → pages_without p ps ≡ cond (nat_eq c c) (without p ps) ps
 own_leaves c p ps once = leaves_once p ps once ∙ sym (ap (λ b. cond b (without p ps) ps) (eq-eqb c c refl))
 
 freed_none : (o : Outcome) (p : ℕ) → flight_by [] p o ≡ []

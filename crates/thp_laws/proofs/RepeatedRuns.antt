@@ -13,7 +13,7 @@ use Rattle.thp_script.specs.declared.script.Op.TheVariants as op
 use Rattle.thp_journal_scripts.specs.declared.folding.EventKind.TheVariants.{Call, Put, Take, Try}
 use Rattle.thp_journal_scripts.specs.Prelude.{kind_of, IsBy, IsScanBy, Repeats, scan_place, Between, IsCallOrScan}
 use Rattle.thp_worker.specs.declared.steps.Step.TheVariants.{One}
-use Rattle.thp_worker.specs.Prelude.{Does, Open, is_open, batches_after, command_of, put_back_on, steps_of, told_by, IsTurn, Made, Turn, TurnsOut}
+use Rattle.thp_worker.specs.Prelude.{Does, Open, is_open, batches_after, turn_command, put_back_on, steps_of, step_results, IsTurn, Made, Turn, TurnsOut}
 use Rattle.thp_worker.proofs.StepLaws.{batches_after-append}
 use Rattle.thp_run.specs.Runs.{no_batches, IsSection}
 use Rattle.thp_laws.specs.Repeated.{ops_on, IsRepeated, ScriptsRepeatHistories}
@@ -158,7 +158,7 @@ module _ (shape : ℕ → Shape) (made : ℕ → History) (limit : ℕ → ℕ) 
           parts = part.parts;
           given = given_more s g rest (e ∷ []) part.more o ops given part.parts part.repeats (subst (λ u. AreInTurn u part.more) (untried_of_call e.what o [] part.kind) turn.1) (one_no_take g e (subst IsNotTake (sym part.kind) tt));
           done = done_once shape made 0 limit batches t.steps ms t.command.node g (e ∷ []) other (record { step = One o; answer = t.answer }) does.0 (recursion_from_All _ t.steps is.on_node)
-              (one_step_of e.what o part.kind (told_by t.steps) t.answer is.turns_out) l_own
+              (one_step_of e.what o part.kind (step_results t.steps) t.answer is.turns_out) l_own
               (subst (λ es. Does s g 0 (batches t.command.node) (One o) es does.0 None) (ap (λ x. x ∷ []) event) (subst (λ b. Does s g 0 b (One o) (by 0 e.what ∷ []) does.0 None) (sym shut) does.1)) at;
         }
 
@@ -188,7 +188,7 @@ module _ (shape : ℕ → Shape) (made : ℕ → History) (limit : ℕ → ℕ) 
           parts = parts;
           given = given_more s g rest own part.more t.command.op ops given parts part.repeats scans.1 no_take;
           done = scan_done shape made 0 limit t.command.node part.count g other own l_own none scans.0 batches t.steps ms t.answer shut (recursion_from_All _ t.steps is.on_node)
-              (subst (λ o. TurnsOut o (told_by t.steps) t.answer) part.is is.turns_out) at;
+              (subst (λ o. TurnsOut o (step_results t.steps) t.answer) part.is is.turns_out) at;
         }
       where
         scan_caller : (part : ScanPart t.command.op ops rest) → part.caller ≡ 0
@@ -235,26 +235,26 @@ module _ (shape : ℕ → Shape) (made : ℕ → History) (limit : ℕ → ℕ) 
     pub shut : (j : ℕ) → batches_after batches (steps_of turns) j ≡ None
     pub stand : AllStand (batches_after batches (steps_of turns)) ms final
 
-  turns_done : (turns : List Turn) (batches : ℕ → Option Open) (ms : List Made) (other rest : ℕ → History) → AllByRecursion IsTurn turns → ((j : ℕ) → batches j ≡ None) → ((j : ℕ) → Given (shape j) (other j) (rest j) (ops_on j (map command_of turns))) →
+  turns_done : (turns : List Turn) (batches : ℕ → Option Open) (ms : List Made) (other rest : ℕ → History) → AllByRecursion IsTurn turns → ((j : ℕ) → batches j ≡ None) → ((j : ℕ) → Given (shape j) (other j) (rest j) (ops_on j (map turn_command turns))) →
       AllStand batches (steps_of turns ++ ms) other → AllDone batches turns ms other rest
   unfolding batches_after
   turns_done [] batches ms other rest each shut given all = record { final = other; final_is = λ j. sym (append_none (other j)) ∙ ap (λ es. other j ++ es) (sym (given j).repeats.0); shut = shut; stand = all }
   turns_done (t ∷ turns) batches ms other rest each shut given all =
       let n : ℕ = t.command.node in
       let cut : AllStand batches (t.steps ++ (steps_of turns ++ ms)) other = subst (λ xs. AllStand batches xs other) (append_assoc t.steps (steps_of turns) ms) all in
-      let here : Given (shape n) (other n) (rest n) (t.command.op ∷ ops_on n (map command_of turns)) =
-      subst (Given (shape n) (other n) (rest n)) (ops_here n t.command (map command_of turns) (eq-eqb n n refl)) (given n) in
-      let one : Repeated batches t.steps (steps_of turns ++ ms) n (other n) (rest n) (ops_on n (map command_of turns)) other =
-      command_repeated batches t (steps_of turns ++ ms) (other n) (rest n) (ops_on n (map command_of turns)) other each.0 (shut n) here (one_of_all batches (t.steps ++ (steps_of turns ++ ms)) other n cut) in
+      let here : Given (shape n) (other n) (rest n) (t.command.op ∷ ops_on n (map turn_command turns)) =
+      subst (Given (shape n) (other n) (rest n)) (ops_here n t.command (map turn_command turns) (eq-eqb n n refl)) (given n) in
+      let one : Repeated batches t.steps (steps_of turns ++ ms) n (other n) (rest n) (ops_on n (map turn_command turns)) other =
+      command_repeated batches t (steps_of turns ++ ms) (other n) (rest n) (ops_on n (map turn_command turns)) other each.0 (shut n) here (one_of_all batches (t.steps ++ (steps_of turns ++ ms)) other n cut) in
       let shut_on : (j : ℕ) (b : Bool) → nat_eq n j ≡ b → batches_after batches t.steps j ≡ None =
       λ j b. elim b as (λ b. nat_eq n j ≡ b → batches_after batches t.steps j ≡ None) [
         | true ↦ λ e. subst (λ i. batches_after batches t.steps i ≡ None) (eqb-true n j e) one.done.shut
         | false ↦ λ e. one.done.others_open j (λ there. let yes = eq-eqb n j (sym there) in absurd (cc)) ∙ shut j
       ] in
-      let given_on : (j : ℕ) (b : Bool) → nat_eq n j ≡ b → Given (shape j) (cond b (other n ++ one.own) (other j)) (cond b one.more (rest j)) (ops_on j (map command_of turns)) =
-      λ j b. elim b as (λ b. nat_eq n j ≡ b → Given (shape j) (cond b (other n ++ one.own) (other j)) (cond b one.more (rest j)) (ops_on j (map command_of turns))) [
-        | true ↦ λ e. subst (λ i. Given (shape i) (other n ++ one.own) one.more (ops_on i (map command_of turns))) (eqb-true n j e) one.given
-        | false ↦ λ e. subst (Given (shape j) (other j) (rest j)) (ops_else j t.command (map command_of turns) e) (given j)
+      let given_on : (j : ℕ) (b : Bool) → nat_eq n j ≡ b → Given (shape j) (cond b (other n ++ one.own) (other j)) (cond b one.more (rest j)) (ops_on j (map turn_command turns)) =
+      λ j b. elim b as (λ b. nat_eq n j ≡ b → Given (shape j) (cond b (other n ++ one.own) (other j)) (cond b one.more (rest j)) (ops_on j (map turn_command turns))) [
+        | true ↦ λ e. subst (λ i. Given (shape i) (other n ++ one.own) one.more (ops_on i (map turn_command turns))) (eqb-true n j e) one.given
+        | false ↦ λ e. subst (Given (shape j) (other j) (rest j)) (ops_else j t.command (map turn_command turns) e) (given j)
       ] in
       let others = turns_done turns (batches_after batches t.steps) ms (at_node n (other n ++ one.own) other) (at_node n one.more rest) each.1 (λ j. shut_on j (nat_eq n j) refl) (λ j. given_on j (nat_eq n j) refl)
       (all_of_one (batches_after batches t.steps) (steps_of turns ++ ms) other n (other n ++ one.own) one.done.stands) in
@@ -278,7 +278,7 @@ none_closes : (bs : ℕ → Option Open) → ((n : ℕ) → bs n ≡ None) → (
 none_closes bs shut [] = refl
 none_closes bs shut (n ∷ ns) = ap (λ (o : Option Open). map put_back_on (cond (is_open o) (n ∷ filter (λ n. is_open (bs n)) ns) (filter (λ n. is_open (bs n)) ns))) (shut n) ∙ none_closes bs shut ns
 
-no_turns : (ts : List Turn) → map command_of ts ≡ [] → ts ≡ []
+no_turns : (ts : List Turn) → map turn_command ts ≡ [] → ts ≡ []
 no_turns [] e = refl
 no_turns (t ∷ ts) e = absurd (cc)
 

@@ -18,12 +18,12 @@ use Rattle.thp_node.specs.declared.answers.Tried.TheVariants as tried
 use Rattle.thp_worker.specs.declared.reply.Reply.TheVariants as reply
 use Rattle.thp_worker.specs.declared.steps.Step.{Step}
 use Rattle.thp_worker.specs.declared.steps.Step.TheVariants.{PutBack, SplitNext, Take}
-use Rattle.thp_worker.specs.Prelude.{Does, Open, Reaction, batches_after, told_by, with_batch, Made, answered_put_back, answered_try, took, IsPage, ScanDone, ScanRefused, StepAnswer}
+use Rattle.thp_worker.specs.Prelude.{Does, Open, Reaction, batches_after, step_results, with_batch, Made, answered_put_back, answered_try, took, FoundPage, ScanDone, ScanRefused, StepAnswer}
 use Rattle.thp_laws.specs.OneStep.{IsSameStep}
 use Rattle.thp_laws.proofs.RepeatedCalls.{not_refused}
 use Rattle.thp_laws.proofs.RepeatedScans.{ScansAs}
 use Rattle.thp_laws.proofs.SameSteps.{one_step}
-use Rattle.thp_laws.proofs.SameTurns.{first_told, none_told, more_told, tries_told, IsOn}
+use Rattle.thp_laws.proofs.SameTurns.{first_reported, none_reported, more_reported, tries_reported, IsOn}
 use Rattle.thp_laws.proofs.SideBySide.{same_append}
 use Rattle.thp_laws.proofs.Walks.{does_next, front_after, legal_after, walk_on, Walk}
 
@@ -37,18 +37,18 @@ module _ (shape : ℕ → Shape) (made : ℕ → History) (c : ℕ) (limit : ℕ
 
   -- the next step does on node n what it would do after that history
   pub record Went (batches : ℕ → Option Open) (m : Made) (ms : List Made) (n : ℕ) (g own : History) (other : ℕ → History) (answer : Reaction) (after : Option Open) : Type 0 where
-    pub answered : m.told.answer ≡ answer
+    pub answered : m.reported.answer ≡ answer
     pub opens : with_batch batches m.node m.after n ≡ after
     pub others_open : (j : ℕ) → (j ≡ n → ⊥) → with_batch batches m.node m.after j ≡ batches j
     pub stands : Stands (with_batch batches m.node m.after) ms n (g ++ own) other
 
   go_on : (batches : ℕ → Option Open) (m : Made) (ms : List Made) (n : ℕ) (g own : History) (other : ℕ → History) (step : Step) (answer : Reaction) (after : Option Open) →
-      Stands batches (m ∷ ms) n g other → m.node ≡ n → m.told.step ≡ step → IsLegal (shape n) (g ++ own) → Does (shape n) g c (batches n) step own answer after → Went batches m ms n g own other answer after
+      Stands batches (m ∷ ms) n g other → m.node ≡ n → m.reported.step ≡ step → IsLegal (shape n) (g ++ own) → Does (shape n) g c (batches n) step own answer after → Went batches m ms n g own other answer after
   go_on batches m ms n g own other step answer after at on is legal does =
-      let theirs : Does (shape m.node) g c (batches m.node) m.told.step own answer after =
-      subst (λ i. Does (shape i) g c (batches i) m.told.step own answer after) (sym on) (subst (λ (x : Step). Does (shape n) g c (batches n) x own answer after) (sym is) does) in
-      let same : IsSameStep m.own own m.told.answer answer m.after after =
-      one_step (shape m.node) (at.front m.node) g c (batches m.node) m.told.step m.own own m.told.answer answer m.after after (subst (λ i. SameButBlocks (at.front i) g) (sym on) at.here)
+      let theirs : Does (shape m.node) g c (batches m.node) m.reported.step own answer after =
+      subst (λ i. Does (shape i) g c (batches i) m.reported.step own answer after) (sym on) (subst (λ (x : Step). Does (shape n) g c (batches n) x own answer after) (sym is) does) in
+      let same : IsSameStep m.own own m.reported.answer answer m.after after =
+      one_step (shape m.node) (at.front m.node) g c (batches m.node) m.reported.step m.own own m.reported.answer answer m.after after (subst (λ i. SameButBlocks (at.front i) g) (sym on) at.here)
       (legal_after shape made c limit at.front batches m ms at.walk) (subst (λ i. IsLegal (shape i) (g ++ own)) (sym on) legal) (does_next shape made c limit at.front batches m ms at.walk) theirs in
       record {
         answered = same.answers;
@@ -76,14 +76,14 @@ module _ (shape : ℕ → Shape) (made : ℕ → History) (c : ℕ) (limit : ℕ
   after_one batches m steps ms n g other same done = record { shut = done.shut; others_open = λ j away. done.others_open j away ∙ same j away; stands = done.stands }
 
   -- a command of one step that leaves no batch held
-  pub done_once : (batches : ℕ → Option Open) (steps ms : List Made) (n : ℕ) (g own : History) (other : ℕ → History) (told : StepAnswer) (answer : Reaction) → AllByRecursion (IsOn n) steps → told_by steps ≡ told ∷ [] →
-      IsLegal (shape n) (g ++ own) → Does (shape n) g c (batches n) told.step own answer None → Stands batches (steps ++ ms) n g other → Done batches steps ms n (g ++ own) other
+  pub done_once : (batches : ℕ → Option Open) (steps ms : List Made) (n : ℕ) (g own : History) (other : ℕ → History) (reported : StepAnswer) (answer : Reaction) → AllByRecursion (IsOn n) steps → step_results steps ≡ reported ∷ [] →
+      IsLegal (shape n) (g ++ own) → Does (shape n) g c (batches n) reported.step own answer None → Stands batches (steps ++ ms) n g other → Done batches steps ms n (g ++ own) other
   unfolding batches_after
-  done_once batches [] ms n g own other told answer on are legal does at = absurd (none_told told [] are)
-  done_once batches (m ∷ []) ms n g own other told answer on are legal does at =
-      let went = go_on batches m ms n g own other told.step answer None at on.0 (ap (λ (t : StepAnswer). t.step) (first_told m [] told [] are).0) legal does in
+  done_once batches [] ms n g own other reported answer on are legal does at = absurd (none_reported reported [] are)
+  done_once batches (m ∷ []) ms n g own other reported answer on are legal does at =
+      let went = go_on batches m ms n g own other reported.step answer None at on.0 (ap (λ (t : StepAnswer). t.step) (first_reported m [] reported [] are).0) legal does in
       record { shut = went.opens; others_open = went.others_open; stands = went.stands }
-  done_once batches (m ∷ l ∷ steps) ms n g own other told answer on are legal does at = absurd (more_told m l steps told are)
+  done_once batches (m ∷ l ∷ steps) ms n g own other reported answer on are legal does at = absurd (more_reported m l steps reported are)
 
   -- ---- a scan
 
@@ -137,17 +137,17 @@ module _ (shape : ℕ → Shape) (made : ℕ → History) (c : ℕ) (limit : ℕ
     -- ---- the steps, one by one
 
     -- a page that was tried is one
-    page_tried : (k : History) (p : ℕ) → IsPage (answer_to (shape n) k (Some p))
+    page_tried : (k : History) (p : ℕ) → FoundPage (answer_to (shape n) k (Some p))
     page_tried k p = go (is_worth_split (shape n) k p) (nat_eq (pins k p) 0) where
-      go : (a b : Bool) → IsPage (cond a (cond b (tried.Split p) (tried.Pinned p)) (tried.Used p))
+      go : (a b : Bool) → FoundPage (cond a (cond b (tried.Split p) (tried.Pinned p)) (tried.Used p))
       go true true = tt
       go true false = tt
       go false b = tt
 
     -- an answer to a try
-    same_try : (m : Made) (t u : Tried) → m.told ≡ answered_try t → m.told.answer ≡ Ok (reply.Tried u) → t ≡ u
-    same_try m t u told answered =
-        let both : (answered_try t).answer ≡ (answered_try u).answer = sym (ap (λ (x : StepAnswer). x.answer) told) ∙ answered in
+    same_try : (m : Made) (t u : Tried) → m.reported ≡ answered_try t → m.reported.answer ≡ Ok (reply.Tried u) → t ≡ u
+    same_try m t u reported answered =
+        let both : (answered_try t).answer ≡ (answered_try u).answer = sym (ap (λ (x : StepAnswer). x.answer) reported) ∙ answered in
         cc
 
     -- the first of the pages left
@@ -162,13 +162,13 @@ module _ (shape : ℕ → Shape) (made : ℕ → History) (c : ℕ) (limit : ℕ
         let next = next_try i p left cut in
         legal_push (shape n) (tried_to i) (try_event (shape n) g c p) l (subst (Fits (shape n) (tried_to i)) next.same (try_fits (shape n) (tried_to i) c p l next.flies))
 
-    try_went : (i p : ℕ) (left : List ℕ) (batches : ℕ → Option Open) (m : Made) (ms : List Made) → drop i pages ≡ p ∷ left → IsLegal (shape n) (tried_to i) → batches n ≡ batch_of (p ∷ left) → m.node ≡ n → m.told.step ≡ SplitNext →
+    try_went : (i p : ℕ) (left : List ℕ) (batches : ℕ → Option Open) (m : Made) (ms : List Made) → drop i pages ≡ p ∷ left → IsLegal (shape n) (tried_to i) → batches n ≡ batch_of (p ∷ left) → m.node ≡ n → m.reported.step ≡ SplitNext →
         Stands batches (m ∷ ms) n (tried_to i) other → Went batches m ms n (tried_to i) (try_event (shape n) g c p ∷ []) other (Ok (reply.Tried (answer_to (shape n) (tried_to i) (Some p)))) (batch_of left)
     try_went i p left batches m ms cut l held on step at =
         go_on batches m ms n (tried_to i) (try_event (shape n) g c p ∷ []) other SplitNext _ (batch_of left) at on step (legal_next i p left cut l)
         (subst (λ b. Does (shape n) (tried_to i) c b SplitNext (try_event (shape n) g c p ∷ []) (Ok (reply.Tried (answer_to (shape n) (tried_to i) (Some p)))) (batch_of left)) (sym held) (try_does i p left (next_try i p left cut)))
 
-    end_went : (i : ℕ) (batches : ℕ → Option Open) (m : Made) (ms : List Made) → IsLegal (shape n) (tried_to i) → batches n ≡ batch_of [] → m.node ≡ n → m.told.step ≡ SplitNext →
+    end_went : (i : ℕ) (batches : ℕ → Option Open) (m : Made) (ms : List Made) → IsLegal (shape n) (tried_to i) → batches n ≡ batch_of [] → m.node ≡ n → m.reported.step ≡ SplitNext →
         Stands batches (m ∷ ms) n (tried_to i) other → Went batches m ms n (tried_to i) [] other (Ok (reply.Tried tried.Done)) (batch_of [])
     end_went i batches m ms l held on step at =
         go_on batches m ms n (tried_to i) [] other SplitNext (Ok (reply.Tried tried.Done)) (batch_of []) at on step (subst (IsLegal (shape n)) (sym (append_none (tried_to i))) l)
@@ -185,7 +185,7 @@ module _ (shape : ℕ → Shape) (made : ℕ → History) (c : ℕ) (limit : ℕ
         ∙ ap (λ k. k ++ scans.back) (append_assoc g (take_events (shape n) g c count) (map (try_event (shape n) g c) pages))
         ∙ append_assoc g (take_events (shape n) g c count ++ map (try_event (shape n) g c) pages) scans.back ∙ ap (λ es. g ++ es) (sym scans.parts)
 
-    back_done : (i : ℕ) (batches : ℕ → Option Open) (steps ms : List Made) (b : BackReply) → drop i pages ≡ [] → batches n ≡ batch_of [] → AllByRecursion (IsOn n) steps → told_by steps ≡ answered_put_back b ∷ [] →
+    back_done : (i : ℕ) (batches : ℕ → Option Open) (steps ms : List Made) (b : BackReply) → drop i pages ≡ [] → batches n ≡ batch_of [] → AllByRecursion (IsOn n) steps → step_results steps ≡ answered_put_back b ∷ [] →
         Stands batches (steps ++ ms) n (tried_to i) other → Done batches steps ms n (g ++ own) other
     back_done i batches steps ms b cut held on are at =
         subst (λ k. Done batches steps ms n k other) (whole i cut)
@@ -194,25 +194,25 @@ module _ (shape : ℕ → Shape) (made : ℕ → History) (c : ℕ) (limit : ℕ
 
     -- the pages left are tried, and the batch is put back
     tries_done : (i : ℕ) (left : List ℕ) (batches : ℕ → Option Open) (steps ms : List Made) (ts : List Tried) (b : BackReply) → drop i pages ≡ left → IsLegal (shape n) (tried_to i) → batches n ≡ batch_of left →
-        AllByRecursion (IsOn n) steps → AllByRecursion IsPage ts → told_by steps ≡ tries_told ts b → Stands batches (steps ++ ms) n (tried_to i) other → Done batches steps ms n (g ++ own) other
-    tries_done i left batches [] ms [] b cut l held on found are at = absurd (none_told _ _ are)
-    tries_done i left batches [] ms (t ∷ ts) b cut l held on found are at = absurd (none_told _ _ are)
+        AllByRecursion (IsOn n) steps → AllByRecursion FoundPage ts → step_results steps ≡ tries_reported ts b → Stands batches (steps ++ ms) n (tried_to i) other → Done batches steps ms n (g ++ own) other
+    tries_done i left batches [] ms [] b cut l held on found are at = absurd (none_reported _ _ are)
+    tries_done i left batches [] ms (t ∷ ts) b cut l held on found are at = absurd (none_reported _ _ are)
     tries_done i (p ∷ left) batches (m ∷ steps) ms [] b cut l held on found are at =
-        let went = try_went i p left batches m (steps ++ ms) cut l held on.0 (ap (λ (t : StepAnswer). t.step) (first_told m steps (answered_try tried.Done) (answered_put_back b ∷ []) are).0) at in
-        absurd (subst IsPage (sym (same_try m tried.Done _ (first_told m steps (answered_try tried.Done) (answered_put_back b ∷ []) are).0 went.answered)) (page_tried (tried_to i) p))
+        let went = try_went i p left batches m (steps ++ ms) cut l held on.0 (ap (λ (t : StepAnswer). t.step) (first_reported m steps (answered_try tried.Done) (answered_put_back b ∷ []) are).0) at in
+        absurd (subst FoundPage (sym (same_try m tried.Done _ (first_reported m steps (answered_try tried.Done) (answered_put_back b ∷ []) are).0 went.answered)) (page_tried (tried_to i) p))
     tries_done i (p ∷ left) batches (m ∷ steps) ms (t ∷ ts) b cut l held on found are at =
-        let ours = first_told m steps (answered_try t) (tries_told ts b) are in
+        let ours = first_reported m steps (answered_try t) (tries_reported ts b) are in
         let next = next_try i p left cut in
         let went = try_went i p left batches m (steps ++ ms) cut l held on.0 (ap (λ (x : StepAnswer). x.step) ours.0) at in
         after_one batches m steps ms n (g ++ own) other went.others_open
         (tries_done (i + 1) left (with_batch batches m.node m.after) steps ms ts b ((more_taken i pages p (first_left p left (drop i pages) cut)).1 ∙ ap (drop 1) cut) (subst (IsLegal (shape n)) (sym next.more) (legal_next i p left cut l)) went.opens on.1 found.1 ours.1
         (subst (λ k. Stands (with_batch batches m.node m.after) (steps ++ ms) n k other) (sym next.more) went.stands))
     tries_done i [] batches (m ∷ steps) ms (t ∷ ts) b cut l held on found are at =
-        let ours = first_told m steps (answered_try t) (tries_told ts b) are in
+        let ours = first_reported m steps (answered_try t) (tries_reported ts b) are in
         let went = end_went i batches m (steps ++ ms) l held on.0 (ap (λ (x : StepAnswer). x.step) ours.0) at in
-        absurd (subst IsPage (same_try m t tried.Done ours.0 went.answered) found.0)
+        absurd (subst FoundPage (same_try m t tried.Done ours.0 went.answered) found.0)
     tries_done i [] batches (m ∷ steps) ms [] b cut l held on found are at =
-        let ours = first_told m steps (answered_try tried.Done) (answered_put_back b ∷ []) are in
+        let ours = first_reported m steps (answered_try tried.Done) (answered_put_back b ∷ []) are in
         let went = end_went i batches m (steps ++ ms) l held on.0 (ap (λ (x : StepAnswer). x.step) ours.0) at in
         after_one batches m steps ms n (g ++ own) other went.others_open (back_done i (with_batch batches m.node m.after) steps ms b cut went.opens on.1 ours.1 (subst (λ k. Stands (with_batch batches m.node m.after) (steps ++ ms) n k other) (append_none (tried_to i)) went.stands))
 
@@ -223,24 +223,24 @@ module _ (shape : ℕ → Shape) (made : ℕ → History) (c : ℕ) (limit : ℕ
     taken_legal : IsLegal (shape n) (g ++ take_events (shape n) g c count)
     taken_legal = (take_runs (shape n) g c count before free).legal
 
-    take_went : (batches : ℕ → Option Open) (m : Made) (ms : List Made) → batches n ≡ None → m.node ≡ n → m.told.step ≡ Take count →
+    take_went : (batches : ℕ → Option Open) (m : Made) (ms : List Made) → batches n ≡ None → m.node ≡ n → m.reported.step ≡ Take count →
         Stands batches (m ∷ ms) n g other → Went batches m ms n g (take_events (shape n) g c count) other (Ok (reply.Taken (length pages))) (batch_of pages)
     take_went batches m ms held on step at =
         go_on batches m ms n g (take_events (shape n) g c count) other (Take count) (Ok (reply.Taken (length pages))) (batch_of pages) at on step taken_legal
         (subst (λ b. Does (shape n) g c b (Take count) (take_events (shape n) g c count) (Ok (reply.Taken (length pages))) (batch_of pages)) (sym held) take_does)
 
     -- the whole scan was done
-    pub scan_done : (batches : ℕ → Option Open) (steps ms : List Made) (answer : Reaction) → batches n ≡ None → AllByRecursion (IsOn n) steps → ScanDone count (told_by steps) answer ⊎ ScanRefused count (told_by steps) answer →
+    pub scan_done : (batches : ℕ → Option Open) (steps ms : List Made) (answer : Reaction) → batches n ≡ None → AllByRecursion (IsOn n) steps → ScanDone count (step_results steps) answer ⊎ ScanRefused count (step_results steps) answer →
         Stands batches (steps ++ ms) n g other → Done batches steps ms n (g ++ own) other
-    scan_done batches [] ms answer held on (inl done) at = absurd (none_told _ _ done.steps)
-    scan_done batches [] ms answer held on (inr refused) at = absurd (none_told _ _ refused.steps)
+    scan_done batches [] ms answer held on (inl done) at = absurd (none_reported _ _ done.steps)
+    scan_done batches [] ms answer held on (inr refused) at = absurd (none_reported _ _ refused.steps)
     scan_done batches (m ∷ steps) ms answer held on (inl done) at =
-        let ours = first_told m steps (took count done.taken) (tries_told done.tries done.back) done.steps in
+        let ours = first_reported m steps (took count done.taken) (tries_reported done.tries done.back) done.steps in
         let went = take_went batches m (steps ++ ms) held on.0 (ap (λ (x : StepAnswer). x.step) ours.0) at in
         after_one batches m steps ms n (g ++ own) other went.others_open
-        (tries_done 0 pages (with_batch batches m.node m.after) steps ms done.tries done.back refl (subst (IsLegal (shape n)) (sym taken_is) taken_legal) went.opens on.1 (recursion_from_All IsPage done.tries done.pages) ours.1
+        (tries_done 0 pages (with_batch batches m.node m.after) steps ms done.tries done.back refl (subst (IsLegal (shape n)) (sym taken_is) taken_legal) went.opens on.1 (recursion_from_All FoundPage done.tries done.pages) ours.1
         (subst (λ k. Stands (with_batch batches m.node m.after) (steps ++ ms) n k other) (sym taken_is) went.stands))
     scan_done batches (m ∷ steps) ms answer held on (inr refused) at =
-        let ours = first_told m steps (record { step = Take count; answer = Err refused.why }) [] refused.steps in
+        let ours = first_reported m steps (record { step = Take count; answer = Err refused.why }) [] refused.steps in
         let went = take_went batches m (steps ++ ms) held on.0 (ap (λ (x : StepAnswer). x.step) ours.0) at in
         absurd (let both : Err refused.why ≡ Ok (reply.Taken (length pages)) = sym (ap (λ (x : StepAnswer). x.answer) ours.0) ∙ went.answered in cc)

@@ -7,7 +7,7 @@ use Rattle.thp_history.specs.declared.shape.Shape.{Shape}
 use Rattle.thp_history.specs.Prelude.{SameButBlocks, History, events_of, IsLegal}
 use Rattle.thp_script.specs.declared.script.Command.{Command}
 use Rattle.thp_worker.specs.declared.reply.Answer.{Answer}
-use Rattle.thp_worker.specs.Prelude.{Open, is_open, ComesBefore, IsMade, IsTurn, Made, Turn, answers_from, batches_after, closing, command_of, own_events, put_back_on, steps_of, with_batch}
+use Rattle.thp_worker.specs.Prelude.{Open, is_open, ComesBefore, IsMade, IsTurn, Made, Turn, answers_from, batches_after, closing, turn_command, own_events, put_back_on, steps_of, with_batch}
 use Rattle.thp_run.specs.Runs.{IsSection, no_batches}
 use Rattle.thp_laws.proofs.SameTurns.{turns_twice}
 use Rattle.thp_laws.proofs.SideBySide.{Pair}
@@ -110,7 +110,7 @@ module _ (P : ℕ → Type 0) where
   turn_among node (m ∷ ms) on p = (subst P (sym on.0) p, turn_among node ms on.1 p)
 
   -- and of turns whose commands are on such nodes
-  turns_among : (ts : List Turn) → AllByRecursion IsTurn ts → AllByRecursion (λ (command : Command). P command.node) (map command_of ts) → AllByRecursion (λ (m : Made). P m.node) (steps_of ts)
+  turns_among : (ts : List Turn) → AllByRecursion IsTurn ts → AllByRecursion (λ (command : Command). P command.node) (map turn_command ts) → AllByRecursion (λ (m : Made). P m.node) (steps_of ts)
   turns_among [] each on = tt
   turns_among (t ∷ ts) each on = among_append t.steps (steps_of ts) (turn_among t.command.node t.steps (recursion_from_All _ t.steps each.0.on_node) on.0) (turns_among ts each.1 on.1)
 

@@ -32,9 +32,9 @@ use Rattle.thp_laws.proofs.SameRefusals.{call_alike, take_alike}
 -- ---- answers that don't look at the history
 
 -- nothing happened in both
-nothing_twice : (batch : Option Open) (own other : List Event) (answer reply said told : Reaction) (after later : Option Open) → said ≡ told →
-    Nothing batch own answer after said → Nothing batch other reply later told → IsSameStep own other answer reply after later
-nothing_twice batch own other answer reply said told after later e a b =
+nothing_twice : (batch : Option Open) (own other : List Event) (answer reply said reported : Reaction) (after later : Option Open) → said ≡ reported →
+    Nothing batch own answer after said → Nothing batch other reply later reported → IsSameStep own other answer reply after later
+nothing_twice batch own other answer reply said reported after later e a b =
     record { events = ap without_blocks (a.0 ∙ sym b.0); answers = a.1 ∙ e ∙ sym b.1; batches = a.2 ∙ sym b.2 }
 
 -- a refusal as an answer
@@ -65,12 +65,12 @@ loss_twice : (s : Shape) (h k : History) (c : ℕ) (w : Outcome → List Bool �
     SameButBlocks h k → IsLegal s (h ++ own) → IsLegal s (k ++ other) →
     ((o u : Outcome) (p r : List Bool) → asked (w o p) ≡ asked (w u r)) → ((o u : Outcome) (p r : List Bool) → with_block 0 (w o p) ≡ with_block 0 (w u r) → (o ≡ u) × (p ≡ r)) →
     DoesLoss c w own answer → DoesLoss c w other reply → after ≡ batch → later ≡ batch → IsSameStep own other answer reply after later
-loss_twice s h k c w batch own other answer reply after later e l m asks tells a b x y =
+loss_twice s h k c w batch own other answer reply after later e l m asks reports a b x y =
     let ours : IsLegal s (h ++ by c (w a.0.outcome a.0.released) ∷ []) = subst (λ (es : List Event). IsLegal s (h ++ es)) a.1 l in
     let theirs : IsLegal s (k ++ by c (w b.0.outcome b.0.released) ∷ []) = subst (λ (es : List Event). IsLegal s (k ++ es)) b.1 m in
     let one : with_block 0 (w a.0.outcome a.0.released) ≡ with_block 0 (w b.0.outcome b.0.released) =
     one_answer s h k c (w a.0.outcome a.0.released) (w b.0.outcome b.0.released) e (asks _ _ _ _) (legal_last s h (by c (w a.0.outcome a.0.released)) ours) (legal_last s k (by c (w b.0.outcome b.0.released)) theirs) in
-    let same : (a.0.outcome ≡ b.0.outcome) × (a.0.released ≡ b.0.released) = tells _ _ _ _ one in
+    let same : (a.0.outcome ≡ b.0.outcome) × (a.0.released ≡ b.0.released) = reports _ _ _ _ one in
     let done : a.0 ≡ b.0 = done_of a.0.outcome b.0.outcome a.0.released b.0.released same.0 same.1 in
     record {
       events = ap without_blocks (a.1 ∙ ap (λ (d : Done). by c (w d.outcome d.released) ∷ []) done ∙ sym b.1);
@@ -90,11 +90,11 @@ asks_alike loss.UnmapWhole p o u x y = refl
 asks_alike (loss.UnmapSub first count) p o u x y = refl
 asks_alike loss.Unpin p o u x y = refl
 
--- and its event tells what did
-tells_alike : (g : Loss) (p : ℕ) (o u : Outcome) (x y : List Bool) → with_block 0 (loss_what g p o x) ≡ with_block 0 (loss_what g p u y) → (o ≡ u) × (x ≡ y)
-tells_alike loss.UnmapWhole p o u x y f = (cc, cc)
-tells_alike (loss.UnmapSub first count) p o u x y f = (cc, cc)
-tells_alike loss.Unpin p o u x y f = (cc, cc)
+-- and its event reports what did
+reports_alike : (g : Loss) (p : ℕ) (o u : Outcome) (x y : List Bool) → with_block 0 (loss_what g p o x) ≡ with_block 0 (loss_what g p u y) → (o ≡ u) × (x ≡ y)
+reports_alike loss.UnmapWhole p o u x y f = (cc, cc)
+reports_alike (loss.UnmapSub first count) p o u x y f = (cc, cc)
+reports_alike loss.Unpin p o u x y f = (cc, cc)
 
 -- a reply as an answer
 said : Reply → Reaction
@@ -115,7 +115,7 @@ page_loss_twice : (s : Shape) (h k : History) (c p : ℕ) (g : Loss) (batch : Op
     SameButBlocks h k → IsLegal s (h ++ own) → IsLegal s (k ++ other) →
     DoesLoss c (loss_what g p) own answer × (after ≡ batch) → DoesLoss c (loss_what g p) other reply × (later ≡ batch) → IsSameStep own other answer reply after later
 page_loss_twice s h k c p g batch own other answer reply after later e l m a b =
-    loss_twice s h k c (loss_what g p) batch own other answer reply after later e l m (asks_alike g p) (tells_alike g p) a.0 b.0 a.1 b.1
+    loss_twice s h k c (loss_what g p) batch own other answer reply after later e l m (asks_alike g p) (reports_alike g p) a.0 b.0 a.1 b.1
 
 -- a command that is one call of a node, and isn't refused
 call_twice : (s : Shape) (h k : History) (c : ℕ) (o : Op) (batch : Option Open) (own other : List Event) (answer reply : Reaction) (after later : Option Open) →
@@ -232,12 +232,12 @@ taken_reply : List ℕ → Reaction
 taken_reply pages = Ok (replied.Taken (length pages))
 
 -- a take that isn't refused
-taken : (s : Shape) (h k : History) (c n : ℕ) (own other : List Event) (answer told : Reaction) (after later : Option Open) → SameButBlocks h k →
+taken : (s : Shape) (h k : History) (c n : ℕ) (own other : List Event) (answer reported : Reaction) (after later : Option Open) → SameButBlocks h k →
     (own ≡ take_events s h c n) × (answer ≡ Ok (replied.Taken (length (take n (queue s h))))) × (after ≡ Some (record { pages = take n (queue s h); left = take n (queue s h) })) →
-    (other ≡ take_events s k c n) × (told ≡ Ok (replied.Taken (length (take n (queue s k))))) × (later ≡ Some (record { pages = take n (queue s k); left = take n (queue s k) })) →
-    IsSameStep own other answer told after later
+    (other ≡ take_events s k c n) × (reported ≡ Ok (replied.Taken (length (take n (queue s k))))) × (later ≡ Some (record { pages = take n (queue s k); left = take n (queue s k) })) →
+    IsSameStep own other answer reported after later
 unfolding taken_batch taken_reply
-taken s h k c n own other answer told after later e a b =
+taken s h k c n own other answer reported after later e a b =
     let pages : take n (queue s h) ≡ take n (queue s k) = ap (take n) ((alike h k e).queue s) in
     record { events = ap without_blocks (a.0 ∙ same_take s h k e c n ∙ sym b.0); answers = a.1 ∙ ap taken_reply pages ∙ sym b.1; batches = a.2 ∙ ap taken_batch pages ∙ sym b.2 }
 

@@ -28,17 +28,17 @@ pub record Pair (shape : ℕ → Shape) (h k : ℕ → History) (c : ℕ) (limit
   pub same : (n : ℕ) → SameButBlocks (front n) (other n)
   pub opens : (n : ℕ) → batches n ≡ others n
 
-module _ (shape : ℕ → Shape) (h k : ℕ → History) (c : ℕ) (limit bound : ℕ → ℕ) (batches others : ℕ → Option Open) (m q : Made) (ms ks : List Made) (p : Pair shape h k c limit bound batches others (m ∷ ms) (q ∷ ks)) (at : m.node ≡ q.node) (step : m.told.step ≡ q.told.step) where
+module _ (shape : ℕ → Shape) (h k : ℕ → History) (c : ℕ) (limit bound : ℕ → ℕ) (batches others : ℕ → Option Open) (m q : Made) (ms ks : List Made) (p : Pair shape h k c limit bound batches others (m ∷ ms) (q ∷ ks)) (at : m.node ≡ q.node) (step : m.reported.step ≡ q.reported.step) where
   -- the same step of both does and answers the same
-  pub next_alike : IsSameStep m.own q.own m.told.answer q.told.answer m.after q.after
+  pub next_alike : IsSameStep m.own q.own m.reported.answer q.reported.answer m.after q.after
   next_alike =
-      let does : Does (shape m.node) (p.other m.node) c (others m.node) q.told.step q.own q.told.answer q.after =
-      subst (λ n. Does (shape n) (p.other n) c (others n) q.told.step q.own q.told.answer q.after) (sym at) (does_next shape k c bound p.other others q ks p.theirs) in
-      let same_does : Does (shape m.node) (p.other m.node) c (batches m.node) m.told.step q.own q.told.answer q.after =
-      subst (λ (s : Step). Does (shape m.node) (p.other m.node) c (batches m.node) s q.own q.told.answer q.after) (sym step)
-      (subst (λ (b : Option Open). Does (shape m.node) (p.other m.node) c b q.told.step q.own q.told.answer q.after) (sym (p.opens m.node)) does) in
+      let does : Does (shape m.node) (p.other m.node) c (others m.node) q.reported.step q.own q.reported.answer q.after =
+      subst (λ n. Does (shape n) (p.other n) c (others n) q.reported.step q.own q.reported.answer q.after) (sym at) (does_next shape k c bound p.other others q ks p.theirs) in
+      let same_does : Does (shape m.node) (p.other m.node) c (batches m.node) m.reported.step q.own q.reported.answer q.after =
+      subst (λ (s : Step). Does (shape m.node) (p.other m.node) c (batches m.node) s q.own q.reported.answer q.after) (sym step)
+      (subst (λ (b : Option Open). Does (shape m.node) (p.other m.node) c b q.reported.step q.own q.reported.answer q.after) (sym (p.opens m.node)) does) in
       let legal : IsLegal (shape m.node) (p.other m.node ++ q.own) = subst (λ n. IsLegal (shape n) (p.other n ++ q.own)) (sym at) (legal_after shape k c bound p.other others q ks p.theirs) in
-      one_step (shape m.node) (p.front m.node) (p.other m.node) c (batches m.node) m.told.step m.own q.own m.told.answer q.told.answer m.after q.after (p.same m.node)
+      one_step (shape m.node) (p.front m.node) (p.other m.node) c (batches m.node) m.reported.step m.own q.own m.reported.answer q.reported.answer m.after q.after (p.same m.node)
       (legal_after shape h c limit p.front batches m ms p.ours) legal (does_next shape h c limit p.front batches m ms p.ours) same_does
 
   -- and both go on side by side

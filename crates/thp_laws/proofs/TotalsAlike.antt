@@ -16,7 +16,7 @@ use Rattle.thp_journal_writer.specs.Prelude.{Journal}
 use Rattle.thp_journal_reader.specs.declared.journals.ReadJournals.{ReadJournals}
 use Rattle.thp_journal_reader.specs.declared.journals.ReadNode.{ReadNode}
 use Rattle.thp_journal_reader.specs.Prelude.{journals_of, node_journal}
-use Rattle.thp_laws.specs.ReadBack.{nodes_from, with_lines}
+use Rattle.thp_laws.specs.ReadBack.{nodes_from, with_first_lines}
 use Rattle.thp_laws.specs.SameTotals.{IsSameJournal, HaveSameTotals, OneTextIsOfOneRun, OneTextHasOneTotal}
 use Rattle.thp_laws.proofs.ReadingBack.{all_read_back}
 
@@ -37,7 +37,7 @@ queues_blind : Blind queues
 queues_blind (Alloc p b) = refl
 queues_blind w = refl
 
--- frames given back are told by events that have no block
+-- frames given back are determined by events that have no block
 gives_blind : (c : ℕ) (w : What) → gives_back (by c (with_block 0 w)) ≡ gives_back (by c w)
 gives_blind c (Alloc p b) = refl
 gives_blind c w = refl
@@ -161,8 +161,8 @@ same_nodes line (j ∷ js) (k ∷ ks) e =
 pub one_run : OneTextIsOfOneRun
 unfolding journals_read
 one_run js ks ours theirs same =
-    let read : journals_read (with_lines js) ≡ journals_read (with_lines ks) = sym (all_read_back js ours) ∙ ap journals_of same ∙ all_read_back ks theirs in
-    let nodes : nodes_from 2 js ≡ nodes_from 2 ks = ap (λ r. (result_unwrap_or r (with_lines js)).nodes) read in
+    let read : journals_read (with_first_lines js) ≡ journals_read (with_first_lines ks) = sym (all_read_back js ours) ∙ ap journals_of same ∙ all_read_back ks theirs in
+    let nodes : nodes_from 2 js ≡ nodes_from 2 ks = ap (λ r. (result_unwrap_or r (with_first_lines js)).nodes) read in
     same_nodes 2 js ks nodes
 
 -- journals that are the same but for blocks have the same totals, one by one

@@ -115,7 +115,7 @@ module _ (shape : ℕ → Shape) (history : ℕ → History) (c : ℕ) (limit : 
   legal_after = subst (IsLegal (shape m.node)) stands_after (legal_take (shape m.node) (history m.node) (length (front m.node) + length m.own) (w.legal m.node))
 
   -- what it does
-  pub does_next : Does (shape m.node) (front m.node) c (batches m.node) m.told.step m.own m.told.answer m.after
+  pub does_next : Does (shape m.node) (front m.node) c (batches m.node) m.reported.step m.own m.reported.answer m.after
   unfolding Carries
   does_next = grind (arith, history_before)
 

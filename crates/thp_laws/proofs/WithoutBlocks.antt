@@ -1,4 +1,4 @@
--- No line of a journal text tells a block.
+-- No line of a journal text contains a block.
 use Rattle.std.proofs.Common.{◌≡◌, ◌==◌, ◌+◌, ℕ, cond, ◌&&◌, ◌||◌, List, [], ◌∷◌, ◌++◌, map, refl, ap, ap₂, sym, ◌∙◌, codes, is_some, decimal}
 use Rattle.std.specs.List.{AllZip, flat_map, list_all, list_any}
 use Rattle.thp_history.specs.declared.events.Event.{Event}
@@ -9,7 +9,7 @@ use Rattle.thp_history.specs.Prelude.{event_with, with_block, without_blocks, Hi
 use Rattle.thp_history.proofs.Alike.{Blind, some_alike}
 use Rattle.thp_journal_writer.specs.declared.version.Version.{Version}
 use Rattle.thp_journal_writer.specs.declared.version.Version.TheVariants as writing
-use Rattle.thp_journal_writer.specs.Prelude.{event_line, event_words, what_words, line_of, Journal, has_order_9, is_access, journal_lines, journal_text, lines_of_node, tells_underused, version_of}
+use Rattle.thp_journal_writer.specs.Prelude.{event_line, event_words, what_words, spaced_line, Journal, has_order_9, is_access, journal_lines, journal_text, lines_of_node, reports_underused, version_of}
 use Rattle.thp_journal_writer.specs.Journals as journal
 use Rattle.thp_laws.specs.SameTotals.{IsSameJournal, NoBlockShows}
 
@@ -23,7 +23,7 @@ words_blind w = refl
 -- the line of an event
 line_blind : (e : Event) → event_line (event_with 0 e) ≡ event_line e
 unfolding event_line event_words
-line_blind e = ap (λ words. line_of (decimal e.caller ∷ words)) (words_blind e.what)
+line_blind e = ap (λ words. spaced_line (decimal e.caller ∷ words)) (words_blind e.what)
 
 -- the lines of a history
 lines_bare : (h : History) → map event_line (without_blocks h) ≡ map event_line h
@@ -40,13 +40,13 @@ access_blind w = refl
 
 -- the journals have one text, version and lines
 record AreOneText (js ks : List Journal) : Type 0 where
-  underused : list_any tells_underused js ≡ list_any tells_underused ks
+  underused : list_any reports_underused js ≡ list_any reports_underused ks
   orders : list_all has_order_9 js ≡ list_all has_order_9 ks
-  lines : (v : Version) (n : ℕ) → journal.lines_from v n js ≡ journal.lines_from v n ks
+  lines : (v : Version) (n : ℕ) → journal.journal_lines_from v n js ≡ journal.journal_lines_from v n ks
 
 -- both need version 3 or neither does
-underused_alike : (j k : Journal) → IsSameJournal j k → tells_underused j ≡ tells_underused k
-unfolding tells_underused
+underused_alike : (j k : Journal) → IsSameJournal j k → reports_underused j ≡ reports_underused k
+unfolding reports_underused
 underused_alike j k same = ap₂ (λ a b. a || b) (ap (λ (s : Shape). is_some s.underused) same.shape) (some_alike is_access access_blind j.1 k.1 same.events)
 
 -- both have order 9 or neither has
@@ -82,4 +82,4 @@ pub one_text : NoBlockShows
 unfolding journal_text journal_lines
 one_text js ks same =
     let one : AreOneText js ks = each_alike js ks same in
-    ap₂ (λ v lines. flat_map journal.ended (journal.version_line v ∷ lines ++ codes "end" ∷ [])) (version_alike js ks one) (one.lines (version_of js) 0 ∙ ap (λ v. journal.lines_from v 0 ks) (version_alike js ks one))
+    ap₂ (λ v lines. flat_map journal.ended (journal.version_line v ∷ lines ++ codes "end" ∷ [])) (version_alike js ks one) (one.lines (version_of js) 0 ∙ ap (λ v. journal.journal_lines_from v 0 ks) (version_alike js ks one))

@@ -5,4 +5,4 @@ pub mod OneText
 pub mod ReadBack
 pub mod Repeated
 pub mod SameTotals
-pub mod Tellable
+pub mod Reportable

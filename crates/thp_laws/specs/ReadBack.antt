@@ -10,16 +10,16 @@ use Rattle.thp_journal_reader.specs.declared.journals.ReadNode.{ReadNode}
 use Rattle.thp_journal_reader.specs.Prelude.{ReportsIllegal, journals_of, node_journal}
 
 -- the events of a node are legal, and its callers are numbers that a node can have
-pub record IsJournal (journal : Journal) : Type 0 where
+pub record IsReadable (journal : Journal) : Type 0 where
   pub shape : IsShape journal.0
   pub legal : IsLegal journal.0 journal.1
   pub callers : All (λ (e : Event). e.caller < max_callers) journal.1
 
 -- at least one such node, and at most as many as a run can have, with a text that is not too long to be read
-pub record AreTellable (journals : List Journal) : Type 0 where
+pub record AreReportable (journals : List Journal) : Type 0 where
   pub some_nodes : 1 ≤ length journals
   pub few_nodes : length journals ≤ max_nodes
-  pub each : All IsJournal journals
+  pub each : All IsReadable journals
   pub short : length (journal_text journals) ≤ max_input
 
 -- each journal with its shape and its first line, if the line of the first node is line `line`; each new page has the least block
@@ -29,12 +29,12 @@ nodes_from line [] = []
 nodes_from line (journal ∷ journals) = node_journal (line + 1) journal.0 journal.1 ∷ nodes_from (line + 1 + length journal.1) journals
 
 -- line 1 is that of the version, and line 2 that of the first node
-abbrev pub with_lines : List Journal → ReadJournals
-with_lines journals = record { nodes = nodes_from 2 journals }
+abbrev pub with_first_lines : List Journal → ReadJournals
+with_first_lines journals = record { nodes = nodes_from 2 journals }
 
 -- reading the text of journals returns those journals, with the least blocks
 abbrev pub TextsAreReadBack : Type 0
-TextsAreReadBack = (journals : List Journal) → AreTellable journals → journals_of (journal_text journals) ≡ Ok (with_lines journals)
+TextsAreReadBack = (journals : List Journal) → AreReportable journals → journals_of (journal_text journals) ≡ Ok (with_first_lines journals)
 
 -- the node read has the shape of the one written, and its events except for their blocks
 pub record IsSameNode (written : Journal) (read : ReadNode) : Type 0 where
@@ -43,13 +43,13 @@ pub record IsSameNode (written : Journal) (read : ReadNode) : Type 0 where
 
 -- the nodes read are those written, in order
 abbrev pub NothingElseChanges : Type 0
-NothingElseChanges = (journals : List Journal) → AllZip IsSameNode journals (with_lines journals).nodes
+NothingElseChanges = (journals : List Journal) → AllZip IsSameNode journals (with_first_lines journals).nodes
 
 -- the nodes read are legal
 abbrev pub WhatIsReadIsLegal : Type 0
-WhatIsReadIsLegal = (journals : List Journal) → AreTellable journals → All (λ (node : ReadNode). IsLegal node.shape node.events) (with_lines journals).nodes
+WhatIsReadIsLegal = (journals : List Journal) → AreReportable journals → All (λ (node : ReadNode). IsLegal node.shape node.events) (with_first_lines journals).nodes
 
 -- so a check of the text finds no illegal event
 abbrev pub TextsAreCalledLegal : Type 0
 TextsAreCalledLegal =
-    (journals : List Journal) (read : ReadJournals) (line : Option ℕ) → AreTellable journals → journals_of (journal_text journals) ≡ Ok read → ReportsIllegal read.nodes line → line ≡ None
+    (journals : List Journal) (read : ReadJournals) (line : Option ℕ) → AreReportable journals → journals_of (journal_text journals) ≡ Ok read → ReportsIllegal read.nodes line → line ≡ None

@@ -2,7 +2,7 @@
 //!
 //! Each is the contract of an empty function. A definition is stated once in its own crate; here two of them are shown to agree.
 //!
-//! - `journals`: what is written of legal histories is read back (`ReadBack`, `Tellable`); a journal's text determines the
+//! - `journals`: what is written of legal histories is read back (`ReadBack`, `Reportable`); a journal's text determines the
 //!   totals (`SameTotals`). Proofs: `SetsBack`, `EventsBack`, `LinesBack`, `JournalsBack`.
 //! - `runs`: the answer of a step follows from the history (`OneStep`; `SameSteps`, `SameRefusals`); workers on nodes of their
 //!   own, or one worker, have one run (`OneRun`; `Walks`, `SideBySide`, `SameTurns`, `SameSections`, `WorkersApart`). A script that

@@ -7,7 +7,7 @@ use Rattle.std.proofs.lemmas.Option.{same_Some, none-some}
 use Rattle.std.proofs.lemmas.Map.Made.{IsDistinct-from_AllPairs}
 use Rattle.std.proofs.lemmas.Map.Views.{Contains-from_any}
 use Rattle.std.proofs.lemmas.Map.Steps.{length-le_from_distinct_below}
-use Rattle.thp_links.specs.Prelude.{Distinct, Apart, without, last_or}
+use Rattle.thp_links.specs.Prelude.{Distinct, Apart, without_index, last_or}
 
 -- nothing is in the empty list
 pub Contains-nil : (i : ℕ) → Contains [] i → ⊥
@@ -114,37 +114,37 @@ Distinct-push xs i d out =
     })
 
 -- a list without repeats, without one of its indices
-pub Distinct-without : (i : ℕ) (xs : List ℕ) → Distinct xs → Distinct (without i xs)
+pub Distinct-without : (i : ℕ) (xs : List ℕ) → Distinct xs → Distinct (without_index i xs)
 Distinct-without i xs d = AllPairs-filter (λ (a b : ℕ). a ≢ b) (λ (j : ℕ). not (eqb j i)) xs d
 
 -- taking out what is absent changes nothing
-pub without_absent : (i : ℕ) (xs : List ℕ) → (Contains xs i → ⊥) → without i xs ≡ xs
+pub without_absent : (i : ℕ) (xs : List ℕ) → (Contains xs i → ⊥) → without_index i xs ≡ xs
 without_absent i [] out = refl
 without_absent i (x ∷ xs) out = elim (eqb_tells x i) [
   | inl y ↦ absurd (absent_head x xs i out (sym y.1))
-  | inr n ↦ ap (λ (b : Bool). cond (not b) (x ∷ without i xs) (without i xs)) n.0
+  | inr n ↦ ap (λ (b : Bool). cond (not b) (x ∷ without_index i xs) (without_index i xs)) n.0
       ∙ ap (λ (ys : List ℕ). x ∷ ys) (without_absent i xs (absent_after x xs i out))
 ]
 
 -- taking out an index that stands between two parts joins them
-pub without-middle : (i : ℕ) (xs ys : List ℕ) → (Contains xs i → ⊥) → (Contains ys i → ⊥) → without i (xs ++ i ∷ ys) ≡ xs ++ ys
-without-middle i xs ys f g = grind (arith, filter-append, without_absent, eqb_tells)
+pub without_index-middle : (i : ℕ) (xs ys : List ℕ) → (Contains xs i → ⊥) → (Contains ys i → ⊥) → without_index i (xs ++ i ∷ ys) ≡ xs ++ ys
+without_index-middle i xs ys f g = grind (arith, filter-append, without_absent, eqb_tells)
 
 -- what is left after an index was taken out was there before, and is another
-pub Contains-from_without : (i : ℕ) (xs : List ℕ) (j : ℕ) → Contains (without i xs) j → Contains xs j × (j ≢ i)
+pub Contains-from_without : (i : ℕ) (xs : List ℕ) (j : ℕ) → Contains (without_index i xs) j → Contains xs j × (j ≢ i)
 Contains-from_without i [] j m = absurd (Contains-nil j m)
 Contains-from_without i (x ∷ xs) j m = elim (eqb_tells x i) [
   | inl y ↦ let n = Contains-from_without i xs j (subst (λ (ys : List ℕ). Contains ys j) (kept y.0) m) in (Contains-behind x xs j n.0, n.1)
-  | inr y ↦ elim (Contains-cons_cases x (without i xs) j (subst (λ (ys : List ℕ). Contains ys j) (kept y.0) m)) [
+  | inr y ↦ elim (Contains-cons_cases x (without_index i xs) j (subst (λ (ys : List ℕ). Contains ys j) (kept y.0) m)) [
     | inl e ↦ ((0, omega arith, sym e), (λ z. y.1 (sym e ∙ z)))
     | inr k ↦ let n = Contains-from_without i xs j k in (Contains-behind x xs j n.0, n.1)
   ]
 ] where
-  kept : {b : Bool} → eqb x i ≡ b → without i (x ∷ xs) ≡ cond (not b) (x ∷ without i xs) (without i xs)
-  kept e = ap (λ (c : Bool). cond (not c) (x ∷ without i xs) (without i xs)) e
+  kept : {b : Bool} → eqb x i ≡ b → without_index i (x ∷ xs) ≡ cond (not b) (x ∷ without_index i xs) (without_index i xs)
+  kept e = ap (λ (c : Bool). cond (not c) (x ∷ without_index i xs) (without_index i xs)) e
 
 -- another index stays when one is taken out
-pub Contains-without : (i : ℕ) (xs : List ℕ) (j : ℕ) → Contains xs j → j ≢ i → Contains (without i xs) j
+pub Contains-without : (i : ℕ) (xs : List ℕ) (j : ℕ) → Contains xs j → j ≢ i → Contains (without_index i xs) j
 Contains-without i [] j m ne = m
 Contains-without i (x ∷ xs) j m ne = elim (eqb_tells x i) [
   | inl y ↦ subst (λ (ys : List ℕ). Contains ys j) (sym (kept y.0)) (elim (Contains-cons_cases x xs j m) [
@@ -153,11 +153,11 @@ Contains-without i (x ∷ xs) j m ne = elim (eqb_tells x i) [
   ])
   | inr y ↦ subst (λ (ys : List ℕ). Contains ys j) (sym (kept y.0)) (elim (Contains-cons_cases x xs j m) [
     | inl e ↦ (0, omega arith, sym e)
-    | inr k ↦ Contains-behind x (without i xs) j (Contains-without i xs j k ne)
+    | inr k ↦ Contains-behind x (without_index i xs) j (Contains-without i xs j k ne)
   ])
 ] where
-  kept : {b : Bool} → eqb x i ≡ b → without i (x ∷ xs) ≡ cond (not b) (x ∷ without i xs) (without i xs)
-  kept e = ap (λ (c : Bool). cond (not c) (x ∷ without i xs) (without i xs)) e
+  kept : {b : Bool} → eqb x i ≡ b → without_index i (x ∷ xs) ≡ cond (not b) (x ∷ without_index i xs) (without_index i xs)
+  kept e = ap (λ (c : Bool). cond (not c) (x ∷ without_index i xs) (without_index i xs)) e
 
 -- what is behind the first index is in the list
 pub Contains-from_rest : (xs : List ℕ) (j : ℕ) → Contains (drop 1 xs) j → Contains xs j

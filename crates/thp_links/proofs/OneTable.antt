@@ -1,7 +1,7 @@
 -- What a caller needs that keeps several lists in one table: a change of one leaves the others as they were.
 use Rattle.std.proofs.Common.{◌≡◌, ℕ, ◌<◌, List, [], ◌∷◌, ◌++◌, length, drop, Some, inl, inr, refl, subst, Contains, slice_get}
 use Rattle.std.proofs.lemmas.List.Elements.{Contains-append_cases}
-use Rattle.thp_links.specs.Prelude.{Link, NIL, Distinct, Apart, without, Stands, ChainStands, SameOutside}
+use Rattle.thp_links.specs.Prelude.{Link, NIL, Distinct, Apart, without_index, Stands, ChainStands, SameOutside}
 use Rattle.thp_links.proofs.Members.{Contains-nil, Contains-cons_cases, Contains-from_first, first_and_rest, Contains-from_rest, Contains-from_without, Distinct-nil, Distinct-head}
 use Rattle.thp_links.proofs.Segments.{Segment-kept, Segment-inside, Trail-kept, Trail-inside}
 
@@ -65,7 +65,7 @@ Apart-push {xs} {ys} {zs} {i} is a out = record {
 }
 
 -- an index was taken out
-pub Apart-remove : (i : ℕ) (xs ys zs : List ℕ) → zs ≡ without i xs → Apart xs ys → Apart zs ys
+pub Apart-remove : (i : ℕ) (xs ys zs : List ℕ) → zs ≡ without_index i xs → Apart xs ys → Apart zs ys
 Apart-remove i xs ys zs is a = record {
   never_both = λ j m. a.never_both j (Contains-from_without i xs j (subst (λ (ws : List ℕ). Contains ws j) is m)).0;
 }
@@ -86,7 +86,7 @@ pub absent-first : {xs ys : List ℕ} {i : ℕ} → Apart xs ys → slice_get ys
 absent-first {xs} {ys} {i} a first m = a.never_both i m (Contains-from_first ys i first)
 
 -- an index that was taken out of a list is in it no longer
-pub absent-removed : (i : ℕ) (xs zs : List ℕ) → zs ≡ without i xs → Contains zs i → ⊥
+pub absent-removed : (i : ℕ) (xs zs : List ℕ) → zs ≡ without_index i xs → Contains zs i → ⊥
 absent-removed i xs zs is m = (Contains-from_without i xs i (subst (λ (ws : List ℕ). Contains ws i) is m)).1 refl
 
 pub absent-popped : (i : ℕ) (xs zs : List ℕ) → zs ≡ drop 1 xs → Distinct xs → slice_get xs 0 ≡ Some i → Contains zs i → ⊥

@@ -2,8 +2,8 @@
 use Rattle.std.proofs.Common.{◌≡◌, ◌≢◌, ℕ, ◌+◌, ◌-◌, ◌<◌, ◌≤◌, List, [], ◌∷◌, ◌++◌, length, get_or, set, drop, Some, ◌⊎◌, inl, inr, sym, ap, ◌∙◌, refl, subst, arith, length-set, length-append, Contains, slice_get}
 use Rattle.std.proofs.lemmas.List.Elements.{Contains-append_left, Contains-append_right, Contains-push}
 use Rattle.std.proofs.lemmas.Option.{same_Some, none-some}
-use Rattle.thp_links.specs.Prelude.{Link, NIL, Distinct, Apart, without, last_or, between, Segment, Stands, SameOutside, HasEnds, with_next, with_prev}
-use Rattle.thp_links.proofs.Members.{Contains-head, Contains-behind, Contains-cons_cases, Contains-last, parts_of, Distinct-head, Distinct-behind, Distinct-cons, Distinct-left, Distinct-right, Distinct-without, Distinct-push, Apart-from_distinct, without-middle, first_or-absent, last_or-append, last_or-absent, length-distinct}
+use Rattle.thp_links.specs.Prelude.{Link, NIL, Distinct, Apart, without_index, last_or, between, Segment, Stands, SameOutside, HasEnds, with_next, with_prev}
+use Rattle.thp_links.proofs.Members.{Contains-head, Contains-behind, Contains-cons_cases, Contains-last, parts_of, Distinct-head, Distinct-behind, Distinct-cons, Distinct-left, Distinct-right, Distinct-without, Distinct-push, Apart-from_distinct, without_index-middle, first_or-absent, last_or-append, last_or-absent, length-distinct}
 use Rattle.thp_links.proofs.Replacing.{slice_get-set_same, slice_get-set_other, length-with_next, length-with_prev}
 use Rattle.thp_links.proofs.Segments.{Segment-with_next, Segment-with_prev, Segment-set, Segment-inside, Segment-absent, Segment-last, Segment-first, Segment-relast, Segment-refirst, relast-other, refirst-other, Segment-append, Segment-left, Segment-right}
 
@@ -144,15 +144,15 @@ module _ (i : ℕ) (xs : List ℕ) (ls : List Link) (small : length ls ≤ NIL) 
   pub next_inside : l.next ≢ NIL → l.next < length ls
   next_inside ne = subst (λ (t : ℕ). t < length ls) (sym next_is) (Segment-first ls i after NIL right.1 (λ z. ne (next_is ∙ z)))
 
-  rest_is : without i xs ≡ before ++ after
+  rest_is : without_index i xs ≡ before ++ after
   rest_is =
-      ap (λ (zs : List ℕ). without i zs) split
-      ∙ without-middle i before after
+      ap (λ (zs : List ℕ). without_index i zs) split
+      ∙ without_index-middle i before after
       (λ m. (Apart-from_distinct before (i ∷ after) cut.distinct).never_both i m (Contains-head i after))
       (Distinct-head i after (Distinct-right before (i ∷ after) cut.distinct))
 
   -- a removal leaves the ends right
-  pub ends_removed : (h t n k m : ℕ) → HasEnds h t n xs → ((l.prev ≡ NIL) × (k ≡ l.next)) ⊎ ((l.prev ≢ NIL) × (k ≡ h)) → ((l.next ≡ NIL) × (m ≡ l.prev)) ⊎ ((l.next ≢ NIL) × (m ≡ t)) → HasEnds k m (n - 1) (without i xs)
+  pub ends_removed : (h t n k m : ℕ) → HasEnds h t n xs → ((l.prev ≡ NIL) × (k ≡ l.next)) ⊎ ((l.prev ≢ NIL) × (k ≡ h)) → ((l.next ≡ NIL) × (m ≡ l.prev)) ⊎ ((l.next ≢ NIL) × (m ≡ t)) → HasEnds k m (n - 1) (without_index i xs)
   ends_removed h t n k m e a b =
       let e' = subst (λ (ys : List ℕ). HasEnds h t n ys) split e in
       subst (λ (ys : List ℕ). HasEnds k m (n - 1) ys) (sym rest_is) (record {
@@ -162,7 +162,7 @@ module _ (i : ℕ) (xs : List ℕ) (ls : List Link) (small : length ls ≤ NIL) 
       })
 
   -- a removal lets the shorter list stand, and changes the pairs of its neighbours alone
-  pub stands_removed : (ms : List Link) → ms ≡ unlinked ls l.prev l.next → Stands (without i xs) ms × SameOutside xs ls ms
+  pub stands_removed : (ms : List Link) → ms ≡ unlinked ls l.prev l.next → Stands (without_index i xs) ms × SameOutside xs ls ms
   unfolding unlinked
   stands_removed ms links =
       let p = last_or NIL before in

@@ -1,6 +1,6 @@
 -- The view that contracts have of an `IndexList`.
 use Rattle.std.specs.Prelude.{ℕ, List, [], ◌∷◌, ◌++◌, drop}
-use Rattle.thp_links.specs.Indices.{without}
+use Rattle.thp_links.specs.Indices.{without_index}
 use Rattle.thp_links.specs.declared.index_list.Edit.{Edit}
 use Rattle.thp_links.specs.declared.index_list.Edit.TheVariants.{Append, Prepend, Remove, RemoveFirst}
 use Rattle.thp_links.specs.declared.index_list.Edits.{Edits}
@@ -10,7 +10,7 @@ use Rattle.thp_links.specs.declared.index_list.Edits.TheVariants.{Empty, Then'}
 abbrev pub edited_by : Edit → List ℕ → List ℕ
 edited_by (Append i) xs = xs ++ i ∷ []
 edited_by (Prepend i) xs = i ∷ xs
-edited_by (Remove i) xs = without i xs
+edited_by (Remove i) xs = without_index i xs
 edited_by RemoveFirst xs = drop 1 xs
 
 -- the list after the edits

@@ -10,8 +10,8 @@ pub record Apart (xs ys : List ℕ) : Type 0 where
   pub never_both : (i : ℕ) → Contains xs i → Contains ys i → ⊥
 
 -- the list without index i
-abbrev pub without : ℕ → List ℕ → List ℕ
-without i xs = filter (λ j. not (j == i)) xs
+abbrev pub without_index : ℕ → List ℕ → List ℕ
+without_index i xs = filter (λ j. not (j == i)) xs
 
 -- the last index, or p if there is none
 abbrev pub last_or : ℕ → List ℕ → ℕ

@@ -1,6 +1,6 @@
 //! A queue of indices: first in, first out, with removal from any position.
 ghost use Rattle.std.specs.Prelude.{◌≡◌, ℕ, ◌+◌, ◌<◌, ◌≤◌, List, [], ◌∷◌, ◌++◌, length, drop, slice_get, Option, Some, None, IfSome, IfNone, Contains};
-ghost use Rattle.thp_links.specs.Prelude.{SameOutside, Stands, without};
+ghost use Rattle.thp_links.specs.Prelude.{SameOutside, Stands, without_index};
 
 use crate::index_list::{Edit, IndexList};
 use crate::link::{Link, NIL};
@@ -79,7 +79,7 @@ impl Queue {
     pub fn remove<T: LinkTable>(&mut self, table: &mut T, i: u32)
         requires stands { Stands self.old (T.links table.old) }
         requires present { Contains self.old i }
-        ensures list { self.new ≡ without i self.old }
+        ensures list { self.new ≡ without_index i self.old }
         ensures stands { Stands self.new (T.links table.new) }
 
         // All other pairs and the rest of the table are unchanged.

@@ -5,7 +5,7 @@ use Rattle.thp_links.proofs.OneTable.{Stands-kept}
 use Rattle.thp_links.proofs.Segments.{Trail-kept}
 use Rattle.thp_page.specs.Prelude.{slot_at, Slot, Table, SameSlots}
 use Rattle.thp_page.proofs.TableSlots.{slot_at-same}
-use Rattle.thp_live_pages.specs.Prelude.{PageStoreState, Edits, IsFreeChain, IsListed, IsLinked}
+use Rattle.thp_live_pages.specs.Prelude.{PageStoreState, Edits, IsFreeChain, IsListed, QueueIsLinked}
 use Rattle.thp_live_pages.proofs.Relinking.{not_queued}
 
 -- an edit of a block that isn't in the chain
@@ -22,11 +22,11 @@ pub not_free : (t : Table) (f : List ℕ) (b : ℕ) (x : Slot) → IsFreeChain t
 not_free t f b x m at i = let none = m.empty b i in absurd (cc (at, none))
 
 -- no block is in the chain and in the queue
-pub queue_apart : (t : Table) (q f : List ℕ) → IsLinked t q → IsFreeChain t f → Apart q f
+pub queue_apart : (t : Table) (q f : List ℕ) → QueueIsLinked t q → IsFreeChain t f → Apart q f
 queue_apart t q f m c = record { never_both = λ k i j. not_queued t q k m (c.empty k j) i }
 
 -- the queue beside a chain that changes
-pub linked_beside : (t u : Table) (q f : List ℕ) → IsLinked t q → SameSlots t u → SameOutside f t.links u.links → Apart q f → IsLinked u q
+pub linked_beside : (t u : Table) (q f : List ℕ) → QueueIsLinked t q → SameSlots t u → SameOutside f t.links u.links → Apart q f → QueueIsLinked u q
 linked_beside t u q f m same out apart = record {
   sizes = ap length same.slots ∙ m.sizes ∙ sym out.same_length;
   queue_stands = Stands-kept m.queue_stands out apart;

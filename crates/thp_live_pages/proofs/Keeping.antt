@@ -1,7 +1,7 @@
 -- What an event leaves of a node: every block but that of the event's page, and the queue's order.
 use Rattle.std.proofs.Common.{◌≡◌, ◌≢◌, ℕ, ◌<◌, Bool, true, false, cond, not, List, [], ◌∷◌, ◌++◌, Option, Some, None, length, map, refl, ap, ap₂, sym, ◌∙◌, subst, arith, nat_eq, inl, inr, get_or, eq-eqb, eqb-true, length-set, slice_set, get_or-set_same, get_or-set_other}
 use Rattle.std.proofs.lemmas.Bool.Decides.{eqb_tells}
-use Rattle.thp_links.specs.Prelude.{without as without_index}
+use Rattle.thp_links.specs.Prelude.{without_index}
 use Rattle.thp_history.specs.declared.events.Event.{Event}
 use Rattle.thp_history.specs.declared.events.What.{What}
 use Rattle.thp_history.specs.declared.shape.Shape.{Shape}

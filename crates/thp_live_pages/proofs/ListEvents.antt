@@ -19,7 +19,7 @@ use Rattle.thp_history.proofs.Tallying.{tallies_alloc, tallies_split, tallies_st
 use Rattle.thp_history.proofs.Untouched.{Untouched, untouched}
 use Rattle.thp_page.specs.declared.standing.Standing.TheVariants.{Nowhere, Queued, Batch}
 use Rattle.thp_page.specs.Prelude.{Slot, Table, slot_at}
-use Rattle.thp_live_pages.specs.Prelude.{PageStoreState, Edits, Placed, TakesFirst, new_standing, new_queue, IsSlot, Fills, IsNode, block_of, standing_of}
+use Rattle.thp_live_pages.specs.Prelude.{PageStoreState, Edits, IsPlaced, TakesFirst, new_standing, new_queue, IsSlot, Fills, IsNode, block_of, standing_of}
 use Rattle.thp_live_pages.proofs.Homing.{Homed, block_push, block_free}
 use Rattle.thp_live_pages.proofs.Keeping.{node_moved, node_stays, blocks_same, blocks_pushed}
 use Rattle.thp_live_pages.proofs.PageEvents.{slot_inside, slot_is, only_in}
@@ -84,7 +84,7 @@ module _ (s : Shape) (h : History) (c p b : ℕ) (homed : Homed s h) (fits : Fit
       map (block_of placed_history) (cond queued (queue s h ++ p ∷ []) (queue s h)) ≡ map (λ n. Some n) (new_queue queued b qs)
   new_blocks x qs e = grind (arith, blocks_pushed, queue_stays, new_home)
 
-  pub placed_node : (queued : Bool) (old new : PageStoreState) → IsNode s h old.table old.queue → b < length old.table.slots → queued ≡ shrinks_underused s → Placed p queued old new b →
+  pub placed_node : (queued : Bool) (old new : PageStoreState) → IsNode s h old.table old.queue → b < length old.table.slots → queued ≡ shrinks_underused s → IsPlaced p queued old new b →
       IsNode s placed_history new.table new.queue
   placed_node queued old new m inside switch placed =
       let did = placed.edits in

@@ -1,6 +1,6 @@
 -- A node after a call about one page: its slot, its place and the queue are what the history with the event says.
 use Rattle.std.proofs.Common.{◌≡◌, ℕ, ◌<◌, Bool, true, false, ◌&&◌, List, [], ◌∷◌, ◌++◌, Option, Some, None, length, map, refl, ap, sym, ◌∙◌, subst, arith, nat_eq, if◌then◌else◌, get_or, eq-eqb, eqb-true, zero, suc}
-use Rattle.thp_links.specs.Prelude.{without as without_index}
+use Rattle.thp_links.specs.Prelude.{without_index}
 use Rattle.thp_history.specs.declared.events.Event.{Event}
 use Rattle.thp_history.specs.declared.events.Outcome.{Outcome}
 use Rattle.thp_history.specs.declared.events.Outcome.TheVariants as outcome
@@ -123,11 +123,11 @@ tallies_loss s h c p (loss.UnmapSub f n) o r old new m w = tallies_unmap_sub s h
 tallies_loss s h c p loss.Unpin o r old new m w = tallies_unpin s h c p o r old new m w
 
 -- the outcome of a loss is the history's
-pub outcome_told : (s : Shape) (h : History) (b : ℕ) (x : Slot) (l : Loss) (closed : Bool) (old new : PageStoreState) (done : Done) (left : Option ℕ) → IsSlot s h b x →
+pub outcome_reported : (s : Shape) (h : History) (b : ℕ) (x : Slot) (l : Loss) (closed : Bool) (old new : PageStoreState) (done : Done) (left : Option ℕ) → IsSlot s h b x →
     closed ≡ is_closed h → (lost : Lost l closed x old new b done left) → done.outcome ≡ page_outcome x.page lost.page (is_closed h) (stands s h x.id)
-outcome_told s h b x l closed old new done left was shut lost = grind (arith, stands_is)
+outcome_reported s h b x l closed old new done left was shut lost = grind (arith, stands_is)
 
--- the event of what a page lost fits, with the outcome and the frames that it tells
+-- the event of what a page lost fits, with the outcome and the frames that it reports
 pub record LossFits (s : Shape) (h : History) (c p : ℕ) (l : Loss) (done : Done) : Type 0 where
   pub gives : Gives s h (h ++ by c (loss_what l p done.outcome done.released) ∷ []) p done.outcome done.released
   pub fits : Fits s h (by c (loss_what l p done.outcome done.released))
@@ -142,7 +142,7 @@ loss_fits s h c b x l closed old new done left homed was shut allowed lost =
     let after : Tallies s (h ++ e ∷ []) x.id lost.page = tallies_loss s h c x.id l done.outcome done.released x.page lost.page was.tallies lost.how in
     let P : List Bool → Type 0 = λ r. Gives s h (h ++ e ∷ []) x.id done.outcome r in
     let gives : Gives s h (h ++ e ∷ []) x.id done.outcome done.released =
-    subst P (sym lost.released_is) (gives_is s h (h ++ e ∷ []) x.id done.outcome x.page lost.page was.tallies after live (lives_by h e x.id done.outcome live (by.no_alloc x.id) (by.freed x.id)) (outcome_told s h b x l closed old new done left was shut lost)) in
+    subst P (sym lost.released_is) (gives_is s h (h ++ e ∷ []) x.id done.outcome x.page lost.page was.tallies after live (lives_by h e x.id done.outcome live (by.no_alloc x.id) (by.freed x.id)) (outcome_reported s h b x l closed old new done left was shut lost)) in
     record { gives = gives; fits = fits_loss s h c x.id l done.outcome done.released allowed gives }
 
 -- the caller that a loss names is that whose flight the page leaves: the one in which it is, where it is freed
@@ -255,7 +255,7 @@ pub lost_node : (s : Shape) (h : History) (c b : ℕ) (x : Slot) (l : Loss) (clo
 lost_node s h c b x l closed old new done left homed m at lost f =
     let was : IsSlot s h b x = slot_is s h old.table old.queue b x m at in
     go done.outcome f.fits lost.edits (λ o. tallies_loss s h c x.id l o done.released x.page lost.page was.tallies lost.how) where
-      go : (o : Outcome) → Fits s h (by c (loss_what l x.id o done.released)) → Edits old new b (slot_after o (record x { page = lost.page })) (blocks.queue_after o b old.queue) 6 →
+      go : (o : Outcome) → Fits s h (by c (loss_what l x.id o done.released)) → Edits old new b (slot_after o (record x { page = lost.page })) (blocks.queue_by_outcome o b old.queue) 6 →
           ((o : Outcome) → Tallies s (h ++ by c (loss_what l x.id o done.released) ∷ []) x.id lost.page) → IsNode s (h ++ by c (loss_what l x.id o done.released) ∷ []) new.table new.queue
       go outcome.Stays fits did after = lost_stays s h c b x l done.released lost.page old new m at fits (after outcome.Stays) did
       go outcome.Queued fits did after = lost_queued s h c b x l done.released lost.page old new m at fits (after outcome.Queued) did

@@ -3,7 +3,7 @@ use Rattle.std.proofs.Common.{◌≡◌, ◌≢◌, ℕ, true, false, zero, suc,
 use Rattle.std.proofs.lemmas.List.Elements.{Contains-append_cases}
 use Rattle.std.proofs.lemmas.Bool.Decides.{eqb_tells}
 use Rattle.thp_links.specs.declared.link.Link.{Link}
-use Rattle.thp_links.specs.Prelude.{Distinct, without, Stands, SameOutside}
+use Rattle.thp_links.specs.Prelude.{Distinct, without_index, Stands, SameOutside}
 use Rattle.thp_links.proofs.Members.{Contains-nil, Contains-cons_cases, Contains-head, Contains-behind, first_and_rest, Contains-from_without, Contains-without, Contains-from_rest, Distinct-head, without_absent}
 use Rattle.thp_history.specs.declared.events.Outcome.{Outcome}
 use Rattle.thp_history.specs.Prelude.{PageState}
@@ -11,7 +11,7 @@ use Rattle.thp_page.specs.declared.standing.Standing.{Standing}
 use Rattle.thp_page.specs.declared.standing.Standing.TheVariants.{Nowhere, Queued}
 use Rattle.thp_page.specs.Prelude.{Slot, Table, slot_at, with_slot, stood, paged, page_in}
 use Rattle.thp_page.proofs.TableSlots.{slot_at-with_slot-same, slot_at-inside}
-use Rattle.thp_live_pages.specs.Prelude.{PageStoreState, Edits, EmptyLinksStay, Placed, slot_after, queue_after, IsQueued, IsListed, IsLinked}
+use Rattle.thp_live_pages.specs.Prelude.{PageStoreState, Edits, EmptyLinksStay, IsPlaced, slot_after, queue_by_outcome, IsQueued, IsListed, QueueIsLinked}
 
 queued_none : (o : Option Slot) → IsQueued o → o ≡ None → ⊥
 queued_none x q e = grind arith
@@ -42,24 +42,24 @@ same_front xs b = grind (arith, Contains-behind, Contains-cons_cases)
 pub same_rest : (xs : List ℕ) (b : ℕ) → slice_get xs 0 ≡ Some b → SameBut xs (drop 1 xs) b
 same_rest xs b first = grind (arith, Contains-cons_cases, first_and_rest, Contains-from_rest)
 
-pub same_without : (xs : List ℕ) (b : ℕ) → SameBut xs (without b xs) b
+pub same_without : (xs : List ℕ) (b : ℕ) → SameBut xs (without_index b xs) b
 same_without xs b = record {
   to = λ k n m. Contains-without b xs k m n;
   from = λ k n m. (Contains-from_without b xs k m).0;
 }
 
 -- the queue after an edit of the slot of block b
-relinked : (t u : Table) (q r : List ℕ) (b : ℕ) (o : Option Slot) → IsLinked t q → u.slots ≡ slice_set t.slots b o → b < length t.slots → length u.links ≡ length t.links →
-    Stands r u.links → SameBut q r b → IsListed o r b → IsLinked u r
+relinked : (t u : Table) (q r : List ℕ) (b : ℕ) (o : Option Slot) → QueueIsLinked t q → u.slots ≡ slice_set t.slots b o → b < length t.slots → length u.links ≡ length t.links →
+    Stands r u.links → SameBut q r b → IsListed o r b → QueueIsLinked u r
 relinked t u q r b o m slots inside links queue same at = grind (arith, length-set, eqb_tells, get_or, get_or-set_same, get_or-set_other)
 
 -- what stands in a block is in the queue exactly where the queue has the block
-listed_at : (t : Table) (q : List ℕ) (b : ℕ) (o : Option Slot) → IsLinked t q → slot_at t b ≡ o → IsListed o q b
+listed_at : (t : Table) (q : List ℕ) (b : ℕ) (o : Option Slot) → QueueIsLinked t q → slot_at t b ≡ o → IsListed o q b
 listed_at t q b o m at = let P : Option Slot → Type 0 = λ z. IsListed z q b in subst P at (m.listed b)
 
 -- what isn't in the queue becomes something else that isn't
-pub linked_outside : (t u : Table) (q : List ℕ) (b : ℕ) (o p : Option Slot) → IsLinked t q → slot_at t b ≡ o → b < length t.slots → (IsQueued o → ⊥) → (IsQueued p → ⊥) →
-    u.slots ≡ slice_set t.slots b p → u.links ≡ t.links → IsLinked u q
+pub linked_outside : (t u : Table) (q : List ℕ) (b : ℕ) (o p : Option Slot) → QueueIsLinked t q → slot_at t b ≡ o → b < length t.slots → (IsQueued o → ⊥) → (IsQueued p → ⊥) →
+    u.slots ≡ slice_set t.slots b p → u.links ≡ t.links → QueueIsLinked u q
 linked_outside t u q b o p m at inside was is slots links =
     let S : List Link → Type 0 = λ ls. Stands q ls in
     let old = listed_at t q b o m at in
@@ -67,8 +67,8 @@ linked_outside t u q b o p m at inside was is slots links =
     (record { queued = λ i. absurd (was (old.queued i)); in_queue = λ i. absurd (is i) })
 
 -- a page that isn't in the queue joins it
-pub linked_queued : (t u : Table) (q : List ℕ) (b : ℕ) (y : Slot) → IsLinked t q → b < length t.slots → y.standing ≡ Queued →
-    u.slots ≡ slice_set t.slots b (Some y) → Stands (q ++ b ∷ []) u.links → SameOutside (q ++ b ∷ []) t.links u.links → IsLinked u (q ++ b ∷ [])
+pub linked_queued : (t u : Table) (q : List ℕ) (b : ℕ) (y : Slot) → QueueIsLinked t q → b < length t.slots → y.standing ≡ Queued →
+    u.slots ≡ slice_set t.slots b (Some y) → Stands (q ++ b ∷ []) u.links → SameOutside (q ++ b ∷ []) t.links u.links → QueueIsLinked u (q ++ b ∷ [])
 linked_queued t u q b y m inside is slots stands outside =
     relinked t u q (q ++ b ∷ []) b (Some y) m slots inside outside.same_length stands (same_pushed q b) (record { queued = λ i. is; in_queue = λ i. last q }) where
       last : (xs : List ℕ) → Contains (xs ++ b ∷ []) b
@@ -76,8 +76,8 @@ linked_queued t u q b y m inside is slots stands outside =
       last (z ∷ xs) = Contains-behind z (xs ++ b ∷ []) b (last xs)
 
 -- the first page of the queue leaves it
-pub linked_popped : (t u : Table) (q : List ℕ) (b : ℕ) (y : Slot) → IsLinked t q → slice_get q 0 ≡ Some b → b < length t.slots → y.standing ≢ Queued →
-    u.slots ≡ slice_set t.slots b (Some y) → Stands (drop 1 q) u.links → SameOutside q t.links u.links → IsLinked u (drop 1 q)
+pub linked_popped : (t u : Table) (q : List ℕ) (b : ℕ) (y : Slot) → QueueIsLinked t q → slice_get q 0 ≡ Some b → b < length t.slots → y.standing ≢ Queued →
+    u.slots ≡ slice_set t.slots b (Some y) → Stands (drop 1 q) u.links → SameOutside q t.links u.links → QueueIsLinked u (drop 1 q)
 linked_popped t u q b y m first inside is slots stands outside =
     relinked t u q (drop 1 q) b (Some y) m slots inside outside.same_length stands (same_rest q b first)
     (record {
@@ -86,25 +86,25 @@ linked_popped t u q b y m first inside is slots stands outside =
     })
 
 -- a page leaves the queue from wherever it stands there
-pub linked_unqueued : (t u : Table) (q : List ℕ) (b : ℕ) (y : Slot) → IsLinked t q → b < length t.slots → y.standing ≢ Queued →
-    u.slots ≡ slice_set t.slots b (Some y) → Stands (without b q) u.links → SameOutside q t.links u.links → IsLinked u (without b q)
+pub linked_unqueued : (t u : Table) (q : List ℕ) (b : ℕ) (y : Slot) → QueueIsLinked t q → b < length t.slots → y.standing ≢ Queued →
+    u.slots ≡ slice_set t.slots b (Some y) → Stands (without_index b q) u.links → SameOutside q t.links u.links → QueueIsLinked u (without_index b q)
 linked_unqueued t u q b y m inside is slots stands outside =
-    relinked t u q (without b q) b (Some y) m slots inside outside.same_length stands (same_without q b)
+    relinked t u q (without_index b q) b (Some y) m slots inside outside.same_length stands (same_without q b)
     (record { queued = λ i. absurd ((Contains-from_without b q b i).1 refl); in_queue = λ i. absurd (is i) })
 
 -- a block of the queue has a page that stands in it
-pub queued_slot : (t : Table) (q : List ℕ) (b : ℕ) → IsLinked t q → Contains q b → (x : Slot) × (slot_at t b ≡ Some x) × (x.standing ≡ Queued)
+pub queued_slot : (t : Table) (q : List ℕ) (b : ℕ) → QueueIsLinked t q → Contains q b → (x : Slot) × (slot_at t b ≡ Some x) × (x.standing ≡ Queued)
 queued_slot t q b m i = go (slot_at t b) ((m.listed b).queued i) where
   go : (o : Option Slot) → IsQueued o → (x : Slot) × (o ≡ Some x) × (x.standing ≡ Queued)
   go None h = absurd h
   go (Some x) h = (x, refl, h)
 
 -- a page that doesn't stand in the queue isn't taken out of it
-pub not_listed : (t : Table) (q : List ℕ) (b : ℕ) (x : Slot) → IsLinked t q → slot_at t b ≡ Some x → x.standing ≢ Queued → without b q ≡ q
+pub not_listed : (t : Table) (q : List ℕ) (b : ℕ) (x : Slot) → QueueIsLinked t q → slot_at t b ≡ Some x → x.standing ≢ Queued → without_index b q ≡ q
 not_listed t q b x m at n = without_absent b q (λ i. n ((listed_at t q b (Some x) m at).queued i))
 
 -- a block without a page isn't in the queue
-pub not_queued : (t : Table) (q : List ℕ) (b : ℕ) → IsLinked t q → slot_at t b ≡ None → Contains q b → ⊥
+pub not_queued : (t : Table) (q : List ℕ) (b : ℕ) → QueueIsLinked t q → slot_at t b ≡ None → Contains q b → ⊥
 not_queued t q b m e i = queued_none (slot_at t b) ((m.listed b).queued i) e
 
 -- the pairs of empty blocks stay where no pair changes
@@ -112,7 +112,7 @@ pub links_same : (t u : Table) (b : ℕ) → u.links ≡ t.links → EmptyLinksS
 links_same t u b e k n none = ap (λ ls. slice_get ls k) e
 
 -- and where only those of the queue and of block b do
-pub links_outside : (t u : Table) (q r : List ℕ) (b : ℕ) → IsLinked t q → SameBut q r b → SameOutside r t.links u.links → EmptyLinksStay t u b
+pub links_outside : (t u : Table) (q r : List ℕ) (b : ℕ) → QueueIsLinked t q → SameBut q r b → SameOutside r t.links u.links → EmptyLinksStay t u b
 links_outside t u q r b m same out k n none = out.same_pairs k (λ i. not_queued t q k m none (same.from k n i))
 
 -- the same, as seen from outside
@@ -128,7 +128,7 @@ pub taken : (o : Option Slot) → IsSome o → (x : Slot) × (o ≡ Some x)
 taken x h = grind arith
 
 -- a page changes in its place
-pub linked_paged : (t : Table) (q : List ℕ) (b : ℕ) (p : PageState) → IsLinked t q → IsSome (slot_at t b) → IsLinked (with_slot t b (paged (slot_at t b) p)) q
+pub linked_paged : (t : Table) (q : List ℕ) (b : ℕ) (p : PageState) → QueueIsLinked t q → IsSome (slot_at t b) → QueueIsLinked (with_slot t b (paged (slot_at t b) p)) q
 linked_paged t q b p m h =
     let w = taken _ h in
     let was = listed_at t q b (Some w.0) m w.1 in
@@ -136,14 +136,14 @@ linked_paged t q b p m h =
     (record { queued = was.queued; in_queue = was.in_queue })
 
 -- a block with a page is one of the table's links
-pub linked_inside : (t : Table) (q : List ℕ) (b : ℕ) → IsLinked t q → IsSome (slot_at t b) → b < length t.links
+pub linked_inside : (t : Table) (q : List ℕ) (b : ℕ) → QueueIsLinked t q → IsSome (slot_at t b) → b < length t.links
 linked_inside t q b m h = let w = taken _ h in subst (λ n. b < n) m.sizes (slot_at-inside t b w.0 w.1)
 
 -- the same facts of the table, from those of the store as seen from outside
 pub seen_taken : (n : PageStoreState) (t : Table) (q : List ℕ) (b : ℕ) → record { table = t; queue = q } ≡ n → IsSome (slot_at n.table b) → IsSome (slot_at t b)
 seen_taken n t q b e = subst (λ (z : PageStoreState). IsSome (slot_at z.table b)) (sym e)
 
-pub seen_inside : (n : PageStoreState) (t : Table) (q : List ℕ) (b : ℕ) → record { table = t; queue = q } ≡ n → IsLinked t q → IsSome (slot_at n.table b) → b < length t.links
+pub seen_inside : (n : PageStoreState) (t : Table) (q : List ℕ) (b : ℕ) → record { table = t; queue = q } ≡ n → QueueIsLinked t q → IsSome (slot_at n.table b) → b < length t.links
 seen_inside n t q b e m h = linked_inside t q b m (seen_taken n t q b e h)
 
 -- a write over a write
@@ -204,8 +204,8 @@ pub edits_as : (old new : PageStoreState) (b : ℕ) (o : Option Slot) (q r : Lis
 edits_as old new b o q r m n same l e = record { slots = e.slots; order = e.order; queue_is = e.queue_is ∙ same; links = e.links; work = omega (arith, e.work, l) }
 
 -- a new page and then its place in the queue
-pub placed_queued : (id : ℕ) (old mid new : PageStoreState) (b : ℕ) → b < length old.table.slots → Placed id false old mid b →
-    ((x : Slot) → slot_at mid.table b ≡ Some x → Edits mid new b (Some (record x { standing = Queued })) (mid.queue ++ b ∷ []) 4) → Placed id true old new b
+pub placed_queued : (id : ℕ) (old mid new : PageStoreState) (b : ℕ) → b < length old.table.slots → IsPlaced id false old mid b →
+    ((x : Slot) → slot_at mid.table b ≡ Some x → Edits mid new b (Some (record x { standing = Queued })) (mid.queue ++ b ∷ []) 4) → IsPlaced id true old new b
 placed_queued id old mid new b inside d e =
     let x : Slot = record { id = id; page = d.page; standing = Nowhere } in
     let y : Slot = record { id = id; page = d.page; standing = Queued } in
@@ -217,11 +217,11 @@ placed_queued id old mid new b inside d e =
     }
 
 -- a page changes and then goes where its outcome says
-pub edits_settled : (old mid new : PageStoreState) (b : ℕ) (y : Slot) (o : Outcome) (n : ℕ) → Edits old mid b (Some y) old.queue 0 → Edits mid new b (slot_after o y) (queue_after o b mid.queue) n → n ≤ 6 →
-    Edits old new b (slot_after o y) (queue_after o b old.queue) 6
+pub edits_settled : (old mid new : PageStoreState) (b : ℕ) (y : Slot) (o : Outcome) (n : ℕ) → Edits old mid b (Some y) old.queue 0 → Edits mid new b (slot_after o y) (queue_by_outcome o b mid.queue) n → n ≤ 6 →
+    Edits old new b (slot_after o y) (queue_by_outcome o b old.queue) 6
 edits_settled old mid new b y o n d e l =
-    edits_as old new b (slot_after o y) (queue_after o b mid.queue) (queue_after o b old.queue) (0 + n) 6 (ap (queue_after o b) d.queue_is) (omega (arith, l))
-    (edits_then old mid new b (Some y) (slot_after o y) old.queue (queue_after o b mid.queue) 0 n d e)
+    edits_as old new b (slot_after o y) (queue_by_outcome o b mid.queue) (queue_by_outcome o b old.queue) (0 + n) 6 (ap (queue_by_outcome o b) d.queue_is) (omega (arith, l))
+    (edits_then old mid new b (Some y) (slot_after o y) old.queue (queue_by_outcome o b mid.queue) 0 n d e)
 
 -- a fact of what stands there
 pub if_at : (o : Option Slot) (x : Slot) (P : Slot → Type 0) → o ≡ Some x → IfSome o P → P x

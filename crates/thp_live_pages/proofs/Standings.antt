@@ -13,7 +13,7 @@ use Rattle.thp_history.proofs.Counting.{count_any}
 use Rattle.thp_history.proofs.Pushes.{queue_push, flights_push}
 use Rattle.thp_history.proofs.Standing.{Sound, stand, times, flying, flying-cons, flying-leaves, pages, any-pages}
 use Rattle.thp_page.specs.declared.standing.Standing.TheVariants.{Nowhere, Queued, Batch}
-use Rattle.thp_live_pages.specs.Prelude.{batch_of, is_nowhere, standing_of, flier, stands_by}
+use Rattle.thp_live_pages.specs.Prelude.{batch_left, is_nowhere, standing_of, flier, stands_by}
 
 -- the page that an event moves or changes
 abbrev pub names : ℕ → What → Bool
@@ -195,8 +195,8 @@ pub batch_has : (s : Shape) (h : History) (p c : ℕ) → standing_of s h p ≡ 
 unfolding standing_of
 batch_has s h p c e = let w = by_batch _ _ c e in (flier_has p c (flights h) w.1, w.1, w.0)
 
--- the flier of a page is told by where the page stands
-pub batch_is : (s : Shape) (h : History) (p : ℕ) → Sound s h → batch_of (standing_of s h p) ≡ flier p (flights h)
+-- the flier of a page is determined by where the page stands
+pub batch_is : (s : Shape) (h : History) (p : ℕ) → Sound s h → batch_left (standing_of s h p) ≡ flier p (flights h)
 unfolding standing_of
 batch_is s h p sound = grind (arith, no_flying, some_of)
 
@@ -207,7 +207,7 @@ has_pages p (f ∷ fs) = go (nat_eq f.1 p) (has_pages p fs) where
   go true n = refl
   go false n = n
 
--- whether a page stands in the queue or a flight is told by where it stands
+-- whether a page stands in the queue or a flight is determined by where it stands
 pub stands_is : (s : Shape) (h : History) (p : ℕ) → stands s h p ≡ not (is_nowhere (standing_of s h p))
 unfolding standing_of
 stands_is s h p = grind (arith, list_any-append, nat_eq, pages, has_pages, is_some)

@@ -42,11 +42,11 @@ module _ (xs : List ℕ) (links : List Link) (stands : Stands xs links) where
 
   -- its pair names the one behind it
   pub behind : (k b v : ℕ) → b ≡ get_or xs k NIL → k < length xs → IfSome (slice_get links b) (λ l. v ≡ l.next) → v ≡ get_or xs (k + 1) NIL
-  behind k b v e below told =
+  behind k b v e below reported =
       let P : Option Link → Type 0 = λ o. IfSome o (λ l. v ≡ l.next) in
       let w = next_at links NIL xs k stands.segment below in
       let at : slice_get links b ≡ Some (between w.0 (get_or xs (suc k) NIL)) = ap (slice_get links) e ∙ w.1 in
-      subst P at told ∙ ap (λ j. get_or xs j NIL) (sym (add-one k))
+      subst P at reported ∙ ap (λ j. get_or xs j NIL) (sym (add-one k))
 
   -- it joins those before it
   pub joins : (k b : ℕ) (ys : List ℕ) → ys ≡ take k xs → b ≡ get_or xs k NIL → k < length xs → ys ++ b ∷ [] ≡ take (k + 1) xs

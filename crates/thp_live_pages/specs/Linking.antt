@@ -15,7 +15,7 @@ pub record IsListed (o : Option Slot) (q : List ℕ) (b : ℕ) : Type 0 where
   pub in_queue : IsQueued o → Contains q b
 
 -- the table's links hold the queue, with the right blocks
-pub record IsLinked (t : Table) (q : List ℕ) : Type 0 where
+pub record QueueIsLinked (t : Table) (q : List ℕ) : Type 0 where
   pub sizes : length t.slots ≡ length t.links
   pub queue_stands : Stands q t.links
   pub listed : (b : ℕ) → IsListed (slot_at t b) q b

@@ -1,6 +1,6 @@
 -- The view that contracts have of a node's pages with their lists, and the effect of the calls of `PageStore`.
 use Rattle.std.specs.Prelude.{◌≡◌, ◌≢◌, ℕ, ◌+◌, ◌<◌, ◌≤◌, Bool, true, false, not, if◌then◌else◌, length, drop, List, [], ◌∷◌, ◌++◌, Option, Some, None, slice_get, slice_set, ◌⊎◌}
-use Rattle.thp_links.specs.Prelude.{without}
+use Rattle.thp_links.specs.Prelude.{without_index}
 use Rattle.thp_history.specs.declared.events.Outcome.{Outcome}
 use Rattle.thp_history.specs.declared.events.Outcome.TheVariants as outcome
 use Rattle.thp_history.specs.Prelude.{page_outcome, page_released, IsFresh, PageState, Loses}
@@ -38,19 +38,19 @@ slot_after outcome.Stays x = Some x
 slot_after outcome.Queued x = Some (record x { standing = Queued })
 slot_after outcome.Freed x = None
 
-abbrev pub queue_after : Outcome → ℕ → List ℕ → List ℕ
-queue_after outcome.Stays b q = q
-queue_after outcome.Queued b q = q ++ b ∷ []
-queue_after outcome.Freed b q = without b q
+abbrev pub queue_by_outcome : Outcome → ℕ → List ℕ → List ℕ
+queue_by_outcome outcome.Stays b q = q
+queue_by_outcome outcome.Queued b q = q ++ b ∷ []
+queue_by_outcome outcome.Freed b q = without_index b q
 
 -- the caller whose batch a page leaves by an outcome
-abbrev pub batch_of : Standing → Option ℕ
-batch_of (Batch c) = Some c
-batch_of s = None
+abbrev pub batch_left : Standing → Option ℕ
+batch_left (Batch c) = Some c
+batch_left s = None
 
-abbrev pub left_by : Outcome → Standing → Option ℕ
-left_by outcome.Freed s = batch_of s
-left_by o s = None
+abbrev pub leaves_batch : Outcome → Standing → Option ℕ
+leaves_batch outcome.Freed s = batch_left s
+leaves_batch o s = None
 
 abbrev pub is_nowhere : Standing → Bool
 is_nowhere Nowhere = true
@@ -62,8 +62,8 @@ pub record Lost (loss : Loss) (closed : Bool) (x : Slot) (old new : PageStoreSta
   pub how : Loses loss x.page page
   pub outcome_is : done.outcome ≡ page_outcome x.page page closed (not (is_nowhere x.standing))
   pub released_is : done.released ≡ page_released x.page page done.outcome
-  pub left_is : left ≡ left_by done.outcome x.standing
-  pub edits : Edits old new b (slot_after done.outcome (record x { page = page })) (queue_after done.outcome b old.queue) 6
+  pub left_is : left ≡ leaves_batch done.outcome x.standing
+  pub edits : Edits old new b (slot_after done.outcome (record x { page = page })) (queue_by_outcome done.outcome b old.queue) 6
 
 -- the list that a new page is on, which is queued or not, and the queue afterwards
 abbrev pub new_standing : Bool → Standing
@@ -75,7 +75,7 @@ new_queue true b q = q ++ b ∷ []
 new_queue false b q = q
 
 -- a new page is placed in block b, and is queued or not
-pub record Placed (id : ℕ) (queued : Bool) (old new : PageStoreState) (b : ℕ) : Type 0 where
+pub record IsPlaced (id : ℕ) (queued : Bool) (old new : PageStoreState) (b : ℕ) : Type 0 where
   pub page : PageState
   pub fresh : IsFresh old.table.order page
   pub edits : Edits old new b (Some (record { id = id; page = page; standing = new_standing queued })) (new_queue queued b old.queue) (if queued then 4 else 0)
@@ -93,7 +93,7 @@ pub record TakesFirst (old new : PageStoreState) (caller id : ℕ) : Type 0 wher
 pub record LeavesQueue (old new : PageStoreState) (b : ℕ) : Type 0 where
   pub slot : Slot
   pub stands : slot.standing ≢ Queued
-  pub edits : Edits old new b (Some slot) (without b old.queue) 6
+  pub edits : Edits old new b (Some slot) (without_index b old.queue) 6
 
 -- a block has no page
 pub record HasFree (t : Table) : Type 0 where

@@ -2,12 +2,12 @@
 ghost use Rattle.std.specs.Prelude.{◌≡◌, ◌≢◌, ℕ, ◌+◌, ◌<◌, ◌≤◌, [], ◌∷◌, ◌++◌, length, drop, slice_get, Option, Some, None, IsSome, IfSome, IfNone, IfOk, OnOk, OnErr, MatchOption, IsTrue, ◌↔◌, Contains, false};
 ghost use Rattle.std.specs.Bool.{OnTrue, OnFalse};
 ghost use Rattle.std.specs.Result.{result_err};
-ghost use Rattle.thp_links.specs.Prelude.{without, Stands};
+ghost use Rattle.thp_links.specs.Prelude.{without_index, Stands};
 ghost use Rattle.thp_history.specs.Prelude.{max_order, min_order, gives_frames, is_split_candidate, page_refusal, PageSplit, PageState, gain_call, loss_call, page_call, Gains};
 ghost use Rattle.thp_page.specs.Prelude.{slot_at, HoldsPage, SameSlots, Slot};
 ghost use Rattle.thp_live_pages.specs.Flying.{IsFlyingAt};
 ghost use Rattle.thp_live_pages.specs.FreeChains.{IsFreeChain, Relinks};
-ghost use Rattle.thp_live_pages.specs.PageStoreState.{AtSlot, Edits, batch_of, IsElsewhere, LeavesQueue, Lost, Placed, TakesFirst};
+ghost use Rattle.thp_live_pages.specs.PageStoreState.{AtSlot, Edits, batch_left, IsElsewhere, LeavesQueue, Lost, IsPlaced, TakesFirst};
 
 use crate::page_call::{give_back, outcome_of};
 use std::alloc::{AllocError, Global};
@@ -28,13 +28,13 @@ pub struct PageStore {
 
 impl Model for PageStore {
     ghost use Rattle.thp_live_pages.specs.PageStoreState.{PageStoreState};
-    ghost use Rattle.thp_live_pages.specs.Linking.{IsLinked};
+    ghost use Rattle.thp_live_pages.specs.Linking.{QueueIsLinked};
 
     ghost Value = { PageStoreState };
 
     ghost view = { λ p. record { table = p.table; queue = p.queue } };
 
-    ghost invariant = { λ p. IsLinked p.table p.queue };
+    ghost invariant = { λ p. QueueIsLinked p.table p.queue };
 }
 
 impl PageStore {
@@ -93,7 +93,7 @@ impl PageStore {
         requires inside { block < length self.old.table.slots }
         requires free { slot_at self.old.table block ≡ None }
         requires new { (b : ℕ) → HoldsPage (slot_at self.old.table b) page → ⊥ }
-        ensures { Placed page queued self.old self.new block }
+        ensures { IsPlaced page queued self.old self.new block }
     {
         self.table.place(block, page);
         if queued {
@@ -340,7 +340,7 @@ impl PageStore {
 
 // The caller whose batch a page is in, if any.
 fn batch_of(standing: Standing) -> Option<u32>
-    ensures { result ≡ batch_of standing }
+    ensures { result ≡ batch_left standing }
 {
     match standing {
         Standing::Batch(caller) => Some(caller),

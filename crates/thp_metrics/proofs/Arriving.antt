@@ -3,7 +3,7 @@ use Rattle.std.proofs.Common.{◌≡◌, ◌≢◌, ℕ, zero, suc, ◌+◌, ◌
 use Rattle.std.proofs.lemmas.Bool.{cases_lt}
 use Rattle.std.proofs.lemmas.List.Sums.{fold_push}
 use Rattle.std.proofs.lemmas.List.Elements.{Contains-push, Contains-push_cases}
-use Rattle.thp_links.specs.Prelude.{without}
+use Rattle.thp_links.specs.Prelude.{without_index}
 use Rattle.thp_links.proofs.Members.{Contains-behind, Contains-cons_cases, Contains-from_without, Contains-head, Contains-nil, Contains-without}
 use Rattle.thp_history.specs.declared.events.Event.{Event}
 use Rattle.thp_history.specs.declared.events.What.{What}
@@ -18,7 +18,7 @@ use Rattle.thp_journal_writer.specs.Prelude.{event_page}
 use Rattle.thp_live_pages.specs.Prelude.{block_after, block_of}
 use Rattle.thp_live_pages.proofs.Homing.{alloc_of, block_freed, block_push, block_stays, legal_homed, live_block}
 use Rattle.thp_live_pages.proofs.Standings.{names}
-use Rattle.thp_metrics.specs.Prelude.{Stage, Arrived, Ascends, KeepsWaits, first_of, first_since, since_of, greatest_below, home, home_by, stage_of, add_wait, longest_wait, waited, waits, waits_in}
+use Rattle.thp_metrics.specs.Prelude.{Stage, Arrived, Ascends, KeepsWaits, first_arrival, first_since, since_of, greatest_below, home, home_by, stage_of, add_wait, longest_wait, waited, waits, waits_in}
 use Rattle.thp_metrics.proofs.Moving.{none_named, not_about, not_named, stage_stays}
 
 -- the wait goes along the history
@@ -128,10 +128,10 @@ ascends_same ns ms (b ∷ bs) same up = (
   ascends_same ns ms bs (λ c m. same c (Contains-behind b bs c m)) up.1,
 )
 
-ascends_without : (ns : List ℕ) (i : ℕ) (bs : List ℕ) → Ascends ns bs → Ascends ns (without i bs)
+ascends_without : (ns : List ℕ) (i : ℕ) (bs : List ℕ) → Ascends ns bs → Ascends ns (without_index i bs)
 ascends_without ns i [] up = tt
 ascends_without ns i (b ∷ bs) up = go (nat_eq b i) (ascends_without ns i bs up.1) where
-  go : (t : Bool) → Ascends ns (without i bs) → Ascends ns (cond (not t) (b ∷ without i bs) (without i bs))
+  go : (t : Bool) → Ascends ns (without_index i bs) → Ascends ns (cond (not t) (b ∷ without_index i bs) (without_index i bs))
   go true rest = rest
   go false rest = ((λ c m. up.0 c (Contains-from_without i bs c m).0), rest)
 
@@ -255,7 +255,7 @@ module _ (s : Shape) (h : History) (e : Event) (n : ℕ) (a : Arrived) (k : Keep
       stays : (q c : ℕ) → home s after q ≡ Some c → q ≢ p
       stays q c y z = absurd (let same : home s after q ≡ home s after p = ap (home s after) z in cc)
 
-      pub goes : (m : ℕ) (x : Arrived) → m ≡ n + 1 → x.order ≡ without b a.order → x.since ≡ a.since → KeepsWaits s after m x
+      pub goes : (m : ℕ) (x : Arrived) → m ≡ n + 1 → x.order ≡ without_index b a.order → x.since ≡ a.since → KeepsWaits s after m x
       goes m x one order since = record {
         legal = legal;
         events_are = omega (arith, one, k.events_are, longer);
@@ -277,7 +277,7 @@ module _ (s : Shape) (h : History) (e : Event) (n : ℕ) (a : Arrived) (k : Keep
         early = λ c y. omega (arith, ap (λ (ns : List ℕ). get_or ns c 0) since, k.early c (was c y).0, longer);
         from_one = λ c y. omega (arith, ap (λ (ns : List ℕ). get_or ns c 0) since, k.from_one c (was c y).0);
         in_order =
-            let P : List ℕ → Type 0 = λ ns. Ascends ns (without b a.order) in
+            let P : List ℕ → Type 0 = λ ns. Ascends ns (without_index b a.order) in
             let Q : List ℕ → Type 0 = Ascends x.since in
             subst Q (sym order) (subst P (sym since) (ascends_without a.since b a.order k.in_order));
       } where
@@ -318,7 +318,7 @@ longest_is s h n a k = go a.order refl where
     by true y = let x = waits_home s h p k.legal y in most x.0 x.1
     by false y = omega (arith, k.idle p y)
 
-  go : (bs : List ℕ) → a.order ≡ bs → longest_wait s h ≡ by_first n (first_of bs a.since)
+  go : (bs : List ℕ) → a.order ≡ bs → longest_wait s h ≡ by_first n (first_arrival bs a.since)
   go [] is = omega (
     arith,
     no_greater (allocations h) (waited s h) 0 (λ p l. upto 0 p (λ c y.
@@ -393,5 +393,5 @@ pub stays_in : (s : Shape) (h : History) (e : Event) (b c : ℕ) (page : Option 
 stays_in s h e b c x l f is before after q = grind (arith, stay_at, same_home)
 
 -- the first of an order
-pub first_is : (order since : List ℕ) (b v : ℕ) → slice_get order 0 ≡ Some b → b < length since → v ≡ get_or since b v → Some v ≡ first_of order since
+pub first_is : (order since : List ℕ) (b v : ℕ) → slice_get order 0 ≡ Some b → b < length since → v ≡ get_or since b v → Some v ≡ first_arrival order since
 first_is x since b v e inside is = grind (arith, any_number, get_or)

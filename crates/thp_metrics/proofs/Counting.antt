@@ -19,8 +19,8 @@ use Rattle.thp_page.specs.declared.standing.Standing.TheVariants as at
 use Rattle.thp_live_pages.specs.Prelude.{standing_of}
 use Rattle.thp_live_pages.proofs.Standings.{batch_has, names, standing_flying, standing_other}
 use Rattle.thp_history.proofs.Totals.{few_events}
-use Rattle.thp_check.specs.Prelude.{Replayed, with_event}
-use Rattle.thp_metrics.specs.Prelude.{callers_in, count_at, count_gone, count_more, MayCount, MayGo, batched, CountsBatches, batch_by, batch_of, is_caller, callers_at}
+use Rattle.thp_check.specs.Prelude.{Replayed, replayed_with}
+use Rattle.thp_metrics.specs.Prelude.{callers_in, count_at, count_gone, count_more, MayCount, MayGo, batched, CountsBatches, batch_by, flight_holder, is_caller, callers_at}
 use Rattle.thp_metrics.proofs.Moving.{no_more, no_page, none_named, not_about, not_named, part_of, sums_differ_at, unborn, unborn_still}
 
 -- what a caller with so many pages adds
@@ -95,34 +95,34 @@ more_size : (counts : List ℕ) (o : Option ℕ) → length (count_more counts o
 more_size counts x = grind (arith, nat_lt, get_or, length-set)
 
 -- a page that an event doesn't name stays in its batch
-batch_stays : (s : Shape) (h : History) (e : Event) (q : ℕ) → Fits s h e → names q e.what ≡ false → batch_of s (h ++ e ∷ []) q ≡ batch_of s h q
+batch_stays : (s : Shape) (h : History) (e : Event) (q : ℕ) → Fits s h e → names q e.what ≡ false → flight_holder s (h ++ e ∷ []) q ≡ flight_holder s h q
 batch_stays s h e q f n =
     let u : Untouched q e.what = untouched q e.what (not_about q e.what n) in
     rw (pushes.live_stays h e q u.no_alloc u.no_free, standing_other s h e q f n) refl
 
-in_none : (s : Shape) (h : History) (p c : ℕ) → is_live h p ≡ false → b1 c (batch_of s h p) ≡ 0
+in_none : (s : Shape) (h : History) (p c : ℕ) → is_live h p ≡ false → b1 c (flight_holder s h p) ≡ 0
 unfolding b1
 in_none s h p c e = ap (λ (b : Bool). cond {A = ℕ} (is_caller c (cond b (batch_by (standing_of s h p)) None)) 1 0) e
 
 alloc_number : (s : Shape) (h : History) (c : ℕ) (w : What) (p : ℕ) → Fits s h (record { caller = c; what = w }) → is_alloc w ≡ true → event_page w ≡ Some p → p ≡ allocations h
 alloc_number s h c x p f a is = grind arith
 
-batched_are : (s : Shape) (h : History) (c : ℕ) → batched s h c ≡ sum_below (allocations h) (λ i. b1 c (batch_of s h i))
+batched_are : (s : Shape) (h : History) (c : ℕ) → batched s h c ≡ sum_below (allocations h) (λ i. b1 c (flight_holder s h i))
 unfolding b1
 batched_are s h c = refl
 
 -- of the page that an event is about the batch before and that after it is counted, and nothing else changes
 batched_moves : (s : Shape) (h : History) (e : Event) (p c : ℕ) → IsLegal s h → Fits s h e → event_page e.what ≡ Some p →
-    batched s (h ++ e ∷ []) c + b1 c (batch_of s h p) ≡ batched s h c + b1 c (batch_of s (h ++ e ∷ []) p)
+    batched s (h ++ e ∷ []) c + b1 c (flight_holder s h p) ≡ batched s h c + b1 c (flight_holder s (h ++ e ∷ []) p)
 batched_moves s h e p c l f is = go (is_alloc e.what) refl where
   k : History
   k = h ++ e ∷ []
 
   old : ℕ → ℕ
-  old i = b1 c (batch_of s h i)
+  old i = b1 c (flight_holder s h i)
 
   new : ℕ → ℕ
-  new i = b1 c (batch_of s k i)
+  new i = b1 c (flight_holder s k i)
 
   n : ℕ
   n = allocations h
@@ -149,26 +149,26 @@ batched_moves s h e p c l f is = go (is_alloc e.what) refl where
 batched_stays : (s : Shape) (h : History) (e : Event) (c : ℕ) → Fits s h e → event_page e.what ≡ None → batched s (h ++ e ∷ []) c ≡ batched s h c
 batched_stays s h e c f none =
     batched_are s (h ++ e ∷ []) c
-    ∙ ap (λ m. sum_below m (λ i. b1 c (batch_of s (h ++ e ∷ []) i))) (pushes.count_same is_alloc h e (no_page e.what none))
-    ∙ sum_below-ext (allocations h) (λ i. b1 c (batch_of s (h ++ e ∷ []) i)) (λ i. b1 c (batch_of s h i)) (λ i low. ap (b1 c) (batch_stays s h e i f (none_named e.what i none)))
+    ∙ ap (λ m. sum_below m (λ i. b1 c (flight_holder s (h ++ e ∷ []) i))) (pushes.count_same is_alloc h e (no_page e.what none))
+    ∙ sum_below-ext (allocations h) (λ i. b1 c (flight_holder s (h ++ e ∷ []) i)) (λ i. b1 c (flight_holder s h i)) (λ i low. ap (b1 c) (batch_stays s h e i f (none_named e.what i none)))
     ∙ sym (batched_are s h c)
 
-batch_has_it : (s : Shape) (h : History) (p c : ℕ) → batch_of s h p ≡ Some c → (is_live h p ≡ true) × (standing_of s h p ≡ at.Batch c)
+batch_has_it : (s : Shape) (h : History) (p c : ℕ) → flight_holder s h p ≡ Some c → (is_live h p ≡ true) × (standing_of s h p ≡ at.Batch c)
 batch_has_it s h p c e = grind arith
 
-some_batched : (s : Shape) (h : History) (p c : ℕ) → IsLegal s h → batch_of s h p ≡ Some c → 0 < batched s h c
+some_batched : (s : Shape) (h : History) (p c : ℕ) → IsLegal s h → flight_holder s h p ≡ Some c → 0 < batched s h c
 some_batched s h p c l e =
     let below : p < allocations h = live_below h p (legal_grown s h l).numbered (batch_has_it s h p c e).0 in
-    omega (arith, batched_are s h c, part_of (allocations h) (λ i. b1 c (batch_of s h i)) p below, ap (b1 c) e, its_own c)
+    omega (arith, batched_are s h c, part_of (allocations h) (λ i. b1 c (flight_holder s h i)) p below, ap (b1 c) e, its_own c)
 
-pub may_go : (r : Replayed) (counts : List ℕ) (o : Option ℕ) (page : Option ℕ) → IsLegal r.shape r.history → CountsBatches r counts → o ≡ option_and_then (batch_of r.shape r.history) page → MayGo counts o
+pub may_go : (r : Replayed) (counts : List ℕ) (o : Option ℕ) (page : Option ℕ) → IsLegal r.shape r.history → CountsBatches r counts → o ≡ option_and_then (flight_holder r.shape r.history) page → MayGo counts o
 may_go r counts x page l k is = grind (arith, some_batched)
 
 pub may_count : (r : Replayed) (counts : List ℕ) (o u : Option ℕ) → CountsBatches r counts → length r.history + 1 < 2 ^ 64 → MayGo counts o → MayCount (count_gone counts o) u
 may_count r counts o x k few may = grind (arith, gone_at, no_more, few_events)
 
 pub counts_on : (r : Replayed) (e : Event) (counts : List ℕ) (o u : Option ℕ) → IsLegal r.shape r.history → Fits r.shape r.history e → CountsBatches r counts → MayGo counts o →
-    o ≡ option_and_then (batch_of r.shape r.history) (event_page e.what) → u ≡ option_and_then (batch_of r.shape (r.history ++ e ∷ [])) (event_page e.what) → CountsBatches (with_event r e) (count_more (count_gone counts o) u)
+    o ≡ option_and_then (flight_holder r.shape r.history) (event_page e.what) → u ≡ option_and_then (flight_holder r.shape (r.history ++ e ∷ [])) (event_page e.what) → CountsBatches (replayed_with r e) (count_more (count_gone counts o) u)
 unfolding b1
 counts_on r e counts o u l f k may before after = record {
   size = more_size (count_gone counts o) u ∙ gone_size counts o ∙ k.size;
@@ -181,7 +181,7 @@ counts_on r e counts o u l f k may before after = record {
   h : History
   h = r.history
 
-  by_page : (c : ℕ) (page : Option ℕ) → event_page e.what ≡ page → batched s (h ++ e ∷ []) c + b1 c (option_and_then (batch_of s h) page) ≡ batched s h c + b1 c (option_and_then (batch_of s (h ++ e ∷ [])) page)
+  by_page : (c : ℕ) (page : Option ℕ) → event_page e.what ≡ page → batched s (h ++ e ∷ []) c + b1 c (option_and_then (flight_holder s h) page) ≡ batched s h c + b1 c (option_and_then (flight_holder s (h ++ e ∷ [])) page)
   by_page c (Some p) is = batched_moves s h e p c l f is
   by_page c None is = ap (λ i. i + 0) (batched_stays s h e c f is)
 
@@ -210,25 +210,25 @@ caller_is : (s : Shape) (h : History) (c n : ℕ) → IsLegal s h → n ≡ batc
 unfolding b1
 caller_is s h c n l is = go (flight h c) refl where
   go : (ps : List ℕ) → flight h c ≡ ps → cond (nat_lt 0 n) (2 ^ c) 0 ≡ cond (no_pages ps) 0 (2 ^ c)
-  go [] e = ap (λ m. cond (nat_lt 0 m) (2 ^ c) 0) (is ∙ batched_are s h c ∙ none_batched (allocations h) (λ i. b1 c (batch_of s h i)) (λ i. isnt i (is_caller c (batch_of s h i)) refl)) where
-    own : (i : ℕ) (o : Option ℕ) → batch_of s h i ≡ o → is_caller c o ≡ true → batch_of s h i ≡ Some c
+  go [] e = ap (λ m. cond (nat_lt 0 m) (2 ^ c) 0) (is ∙ batched_are s h c ∙ none_batched (allocations h) (λ i. b1 c (flight_holder s h i)) (λ i. isnt i (is_caller c (flight_holder s h i)) refl)) where
+    own : (i : ℕ) (o : Option ℕ) → flight_holder s h i ≡ o → is_caller c o ≡ true → flight_holder s h i ≡ Some c
     own i (Some d) y z = y ∙ ap (λ x. Some x) (eqb-true d c z)
     own i None y z = absurd (cc)
 
-    isnt : (i : ℕ) (b : Bool) → is_caller c (batch_of s h i) ≡ b → b1 c (batch_of s h i) ≡ 0
+    isnt : (i : ℕ) (b : Bool) → is_caller c (flight_holder s h i) ≡ b → b1 c (flight_holder s h i) ≡ 0
     isnt i false y = ap (λ b. cond {A = ℕ} b 1 0) y
     isnt i true y = absurd (
-        let has = (batch_has s h i c (batch_has_it s h i c (own i (batch_of s h i) refl y)).1).0 in
+        let has = (batch_has s h i c (batch_has_it s h i c (own i (flight_holder s h i) refl y)).1).0 in
         let hasnt : has_page i (flight h c) ≡ false = ap (has_page i) e in
         cc)
   go (p ∷ ps) e = ap (λ b. cond b (2 ^ c) 0) (lt-ltb 0 n (omega (arith, is, some_batched s h p c l in_batch))) where
     has : has_page p (flight h c) ≡ true
     has = ap (has_page p) e ∙ ap (λ b. b || has_page p ps) (eq-eqb p p refl)
 
-    in_batch : batch_of s h p ≡ Some c
+    in_batch : flight_holder s h p ≡ Some c
     in_batch =
         ap (λ b. cond b (batch_by (standing_of s h p)) None) (flies_live s h c p l has).0
         ∙ ap batch_by (standing_flying s h p c (legal_sound s h l) has)
 
-pub callers_told : (r : Replayed) (counts : List ℕ) → IsLegal r.shape r.history → CountsBatches r counts → callers_in counts ≡ callers_at r.history
-callers_told r counts l k = grind (arith, sum_below-ext, nat_lt, caller_is)
+pub callers_reported : (r : Replayed) (counts : List ℕ) → IsLegal r.shape r.history → CountsBatches r counts → callers_in counts ≡ callers_at r.history
+callers_reported r counts l k = grind (arith, sum_below-ext, nat_lt, caller_is)

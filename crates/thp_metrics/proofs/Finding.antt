@@ -16,7 +16,7 @@ use Rattle.thp_live_pages.specs.Prelude.{block_after, block_of, standing_of}
 use Rattle.thp_live_pages.proofs.Homing.{block_freed, block_push, block_stays, legal_homed}
 use Rattle.thp_live_pages.proofs.Standings.{standing_flying}
 use Rattle.thp_history.proofs.Totals.{few_events}
-use Rattle.thp_metrics.specs.Prelude.{PinCount, KeepsFinds, MayNote, counted, noted, home, stage_by, finds, finds_pinned, waits, waits_in}
+use Rattle.thp_metrics.specs.Prelude.{PinCount, KeepsFinds, MayNote, with_pin_count, noted, home, stage_by, finds, finds_pinned, waits, waits_in}
 use Rattle.thp_metrics.proofs.Arriving.{home_waits, waits_home}
 
 set_same : (xs : List PinCount) (i : ℕ) (v : PinCount) → i < length xs → slice_get (set xs i v) i ≡ Some v
@@ -99,7 +99,7 @@ module _ (s : Shape) (h : History) (e : Event) (found : List PinCount) (l : IsLe
   kept q b a y at = grind (arith, lay_there, unfound)
 
   pub finds_on : (u : Option ℕ) (more : List PinCount) → u ≡ option_and_then (home s after) (event_page e.what) → more ≡ noted found e.what u → KeepsFinds s after more
-  finds_on u more is told = let P : List PinCount → Type 0 = KeepsFinds s after in subst P (sym told) (go e.caller e.what u refl f is) where
+  finds_on u more is reported = let P : List PinCount → Type 0 = KeepsFinds s after in subst P (sym reported) (go e.caller e.what u refl f is) where
     outer : Fits s h e
     outer = f
 
@@ -109,48 +109,48 @@ module _ (s : Shape) (h : History) (e : Event) (found : List PinCount) (l : IsLe
     unequal : (q p : ℕ) → nat_eq q p ≡ false → q ≢ p
     unequal q p y z = absurd (let yes = eq-eqb q p z in cc)
 
-    as_told : ℕ → ℕ → PinCount
-    as_told q n = record { page = q; finds = n }
+    as_reported : ℕ → ℕ → PinCount
+    as_reported q n = record { page = q; finds = n }
 
-    found_again : (p d : ℕ) → e.what ≡ what.Pinned p → block_of after p ≡ Some d → slice_get found d ≡ Some (as_told p (finds h p)) → KeepsFinds s after (set found d (as_told p (finds h p + 1)))
+    found_again : (p d : ℕ) → e.what ≡ what.Pinned p → block_of after p ≡ Some d → slice_get found d ≡ Some (as_reported p (finds h p)) → KeepsFinds s after (set found d (as_reported p (finds h p + 1)))
     found_again p d same lies was = record {
-      size = length-set found d (as_told p (finds h p + 1)) ∙ k.size;
+      size = length-set found d (as_reported p (finds h p + 1)) ∙ k.size;
       each = λ q b at. place q b at (nat_eq q p) refl;
       never = never;
     } where
-      place : (q b : ℕ) → block_of after q ≡ Some b → (t : Bool) → nat_eq q p ≡ t → slice_get (set found d (as_told p (finds h p + 1))) b ≡ Some (as_told q (finds after q))
+      place : (q b : ℕ) → block_of after q ≡ Some b → (t : Bool) → nat_eq q p ≡ t → slice_get (set found d (as_reported p (finds h p + 1))) b ≡ Some (as_reported q (finds after q))
       place q b at true y =
           let page : q ≡ p = eqb-true q p y in
           let block : b ≡ d = some_is b d (sym at ∙ ap (block_of after) page ∙ lies) in
           let more : finds after q ≡ finds h p + 1 = finds_push h e q ∙ ap (λ t. finds h q + cond {A = ℕ} t 1 0) (ap (finds_pinned q) same ∙ y) ∙ ap (λ x. finds h x + 1) page in
-          ap (slice_get (set found d (as_told p (finds h p + 1)))) block
-          ∙ set_same found d (as_told p (finds h p + 1)) (short found d (as_told p (finds h p)) was)
-          ∙ ap (λ (x : ℕ). Some (as_told x (finds h p + 1))) (sym page)
-          ∙ ap (λ (n : ℕ). Some (as_told q n)) (sym more)
+          ap (slice_get (set found d (as_reported p (finds h p + 1)))) block
+          ∙ set_same found d (as_reported p (finds h p + 1)) (short found d (as_reported p (finds h p)) was)
+          ∙ ap (λ (x : ℕ). Some (as_reported x (finds h p + 1))) (sym page)
+          ∙ ap (λ (n : ℕ). Some (as_reported q n)) (sym more)
       place q b at false y =
-          set_other found d b (as_told p (finds h p + 1)) (apart q p b d (unequal q p y) at lies)
+          set_other found d b (as_reported p (finds h p + 1)) (apart q p b d (unequal q p y) at lies)
           ∙ kept q b (ap (allocates q) same) (ap (finds_pinned q) same ∙ y) at
 
     go : (c : ℕ) (w : What) (u : Option ℕ) → e.what ≡ w → Fits s h (by c w) → u ≡ option_and_then (home s after) (event_page w) → KeepsFinds s after (noted found w u)
     go c (what.Alloc p d) u same f is = record {
-      size = length-set found d (as_told p 0) ∙ k.size;
+      size = length-set found d (as_reported p 0) ∙ k.size;
       each = λ q b at. place q b at (nat_eq q p) refl;
       never = never;
     } where
       lies : block_of after p ≡ Some d
       lies = block_push h e p ∙ ap (block_after p (block_of h p)) same ∙ ap (λ t. cond t (Some d) (block_of h p)) (eq-eqb p p refl)
 
-      place : (q b : ℕ) → block_of after q ≡ Some b → (t : Bool) → nat_eq q p ≡ t → slice_get (set found d (as_told p 0)) b ≡ Some (as_told q (finds after q))
+      place : (q b : ℕ) → block_of after q ≡ Some b → (t : Bool) → nat_eq q p ≡ t → slice_get (set found d (as_reported p 0)) b ≡ Some (as_reported q (finds after q))
       place q b at true y =
           let page : q ≡ p = eqb-true q p y in
           let block : b ≡ d = some_is b d (sym at ∙ ap (block_of after) page ∙ lies) in
           let none : finds after q ≡ 0 = unfound q (ap (finds_pinned q) same) ∙ ap (finds h) page ∙ k.never p (omega (arith, f.number)) in
-          ap (slice_get (set found d (as_told p 0))) block
-          ∙ set_same found d (as_told p 0) (omega (arith, f.inside, k.size))
-          ∙ ap (λ (x : ℕ). Some (as_told x 0)) (sym page)
-          ∙ ap (λ (n : ℕ). Some (as_told q n)) (sym none)
+          ap (slice_get (set found d (as_reported p 0))) block
+          ∙ set_same found d (as_reported p 0) (omega (arith, f.inside, k.size))
+          ∙ ap (λ (x : ℕ). Some (as_reported x 0)) (sym page)
+          ∙ ap (λ (n : ℕ). Some (as_reported q n)) (sym none)
       place q b at false y =
-          set_other found d b (as_told p 0) (apart q p b d (unequal q p y) at lies)
+          set_other found d b (as_reported p 0) (apart q p b d (unequal q p y) at lies)
           ∙ kept q b (ap (allocates q) same ∙ y) (ap (finds_pinned q) same) at
     go c (what.Pinned p) None same f is = absurd (
         let w = waits_home s after p legal (ap (λ (x : What). waits s (h ++ by e.caller x ∷ []) p) same ∙ waits_still s h e.caller p l (let P : What → Type 0 = λ x. Fits s h (by e.caller x) in subst P same outer)) in
@@ -158,9 +158,9 @@ module _ (s : Shape) (h : History) (e : Event) (found : List PinCount) (l : IsLe
         cc)
     go c (what.Pinned p) (Some d) same f is =
         let lies : block_of after p ≡ Some d = (home_waits s after p d (sym is)).1 in
-        let was : slice_get found d ≡ Some (as_told p (finds h p)) = k.each p d (lay_there h e p d (ap (allocates p) same) lies) in
+        let was : slice_get found d ≡ Some (as_reported p (finds h p)) = k.each p d (lay_there h e p d (ap (allocates p) same) lies) in
         let P : List PinCount → Type 0 = KeepsFinds s after in
-        subst P (sym (ap (counted found d) was)) (found_again p d same lies was)
+        subst P (sym (ap (with_pin_count found d) was)) (found_again p d same lies was)
     go c w u same f is = record {
       size = k.size;
       each = λ q b at. kept q b (ap (allocates q) same) (ap (finds_pinned q) same) at;

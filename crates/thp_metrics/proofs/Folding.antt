@@ -3,7 +3,7 @@ use Rattle.std.proofs.Common.{◌≡◌, ◌^◌, ◌⊎◌, ℕ, suc, ◌+◌, 
 use Rattle.std.proofs.Math.Nat.{pow-suc}
 use Rattle.std.proofs.lemmas.List.{map-append, length-map}
 use Rattle.std.proofs.lemmas.List.Concat.{flat_map-append}
-use Rattle.thp_metrics.specs.Prelude.{Column, Folded, Numbers, column_of, AreFull, AllLow, HasLowSums, all_of, Folds, both, in_pairs, AreLow, AreWithin}
+use Rattle.thp_metrics.specs.Prelude.{Column, Folded, Numbers, column_of, AreFull, AllLow, HasLowSums, all_of, Folds, both, in_pairs, ColumnsAreLow, AreWithin}
 use Rattle.thp_metrics.proofs.Pairs.{in_twos, pairs_are_of_twos, twos_have_all, twos_are_full, length_of_twos, twos_are_low}
 use Rattle.thp_metrics.proofs.Spans.{column_append, low_append}
 
@@ -11,7 +11,7 @@ full_more : (w : ℕ) (xss : List (List Numbers)) (xs : List Numbers) → AreFul
 full_more w [] xs full e = (e, tt)
 full_more w (ys ∷ xss) xs full e = (full.0, full_more w xss xs full.1 e)
 
-pub are_low_more : (cs : List Column) (c : Column) → AreLow cs → AreWithin (2 ^ 126) c.pages → AreLow (cs ++ c ∷ [])
+pub are_low_more : (cs : List Column) (c : Column) → ColumnsAreLow cs → AreWithin (2 ^ 126) c.pages → ColumnsAreLow (cs ++ c ∷ [])
 are_low_more [] c low l = (l, tt)
 are_low_more (d ∷ cs) c low l = (low.0, are_low_more cs c low.1 l)
 

@@ -10,8 +10,8 @@ use Rattle.thp_history.proofs.Alive.{legal_grown}
 use Rattle.thp_history.proofs.LegalSteps.{legal_none, legal_push}
 use Rattle.thp_history.proofs.Numbers.{live_below}
 use Rattle.thp_history.proofs.Totals.{few_events}
-use Rattle.thp_check.specs.Prelude.{Replayed, with_event}
-use Rattle.thp_metrics.specs.Prelude.{Numbers, Stage, Allocated, PartlyMapped, Queued, InBatch, Split, count_in, entered, left, rank, staged, GoesAlong, MayEnter, MayLeave, numbers_at, series, pages_at, pages_in, stage_of, stages_at, callers_at, longest_wait}
+use Rattle.thp_check.specs.Prelude.{Replayed, replayed_with}
+use Rattle.thp_metrics.specs.Prelude.{Numbers, Stage, Allocated, PartlyMapped, Queued, InBatch, Split, stage_count, entered, left, rank, staged, GoesAlong, MayEnter, MayLeave, numbers_at, series, pages_at, pages_in, stage_of, stages_at, callers_at, longest_wait}
 use Rattle.thp_journal_writer.specs.Prelude.{event_page}
 use Rattle.thp_metrics.proofs.Batches.{in_batches_are}
 use Rattle.thp_metrics.proofs.Moving.{count_moves, count_stays, none_named, not_named, no_more, one, part_of, stage_stays}
@@ -39,12 +39,12 @@ series_push s h e =
 pub length_of_series : (s : Shape) (h : History) → length (series s h) ≡ length h + 1
 length_of_series s h = length-map-range_with_len (λ i. numbers_at s (take i h)) 0 (length h + 1)
 
--- numbers are told by the parts
-pub numbers_are : (s : Shape) (h : History) (n : Numbers) → IsLegal s h → n.queue ≡ length (queue s h) → n.in_batches ≡ count_in n.pages InBatch → n.held ≡ frames_held s h → n.given ≡ frames_given h
+-- numbers are determined by the parts
+pub numbers_are : (s : Shape) (h : History) (n : Numbers) → IsLegal s h → n.queue ≡ length (queue s h) → n.in_batches ≡ stage_count n.pages InBatch → n.held ≡ frames_held s h → n.given ≡ frames_given h
     → n.splits ≡ thp_split_page h → n.underused_splits ≡ thp_underused_split_page s h → n.pinned_tries ≡ thp_split_page_failed h → n.wait ≡ longest_wait s h → n.callers ≡ callers_at h → n.pages ≡ pages_at s h → n.stages ≡ stages_at s h → n ≡ numbers_at s h
 numbers_are s h n l a b c d e f g o u i j = grind (arith, in_batches_are)
 
-count_at : (s : Shape) (h : History) (x : Stage) → count_in (pages_at s h) x ≡ pages_in s h x
+count_at : (s : Shape) (h : History) (x : Stage) → stage_count (pages_at s h) x ≡ pages_in s h x
 count_at s h Allocated = refl
 count_at s h PartlyMapped = refl
 count_at s h Queued = refl
@@ -53,20 +53,20 @@ count_at s h Split = refl
 
 length_left : (n : List ℕ) (o : Option Stage) → length (left n o) ≡ length n
 length_left n None = refl
-length_left n (Some x) = length-set n (rank x) (count_in n x - 1)
+length_left n (Some x) = length-set n (rank x) (stage_count n x - 1)
 
 length_entered : (n : List ℕ) (o : Option Stage) → length (entered n o) ≡ length n
 length_entered n None = refl
-length_entered n (Some x) = length-set n (rank x) (count_in n x + 1)
+length_entered n (Some x) = length-set n (rank x) (stage_count n x + 1)
 
 -- a page that leaves was counted
-count_left : (n : List ℕ) (x : Stage) (o : Option Stage) → length n ≡ 5 → MayLeave n o → count_in (left n o) x + one x o ≡ count_in n x
+count_left : (n : List ℕ) (x : Stage) (o : Option Stage) → length n ≡ 5 → MayLeave n o → stage_count (left n o) x + one x o ≡ stage_count n x
 count_left n x y size may = grind (arith, get_or-set_same, get_or-set_other)
 
-count_entered : (n : List ℕ) (x : Stage) (o : Option Stage) → length n ≡ 5 → count_in (entered n o) x ≡ count_in n x + one x o
+count_entered : (n : List ℕ) (x : Stage) (o : Option Stage) → length n ≡ 5 → stage_count (entered n o) x ≡ stage_count n x + one x o
 count_entered n x y size = grind (arith, get_or-set_same, get_or-set_other)
 
-same_pages : (n m : List ℕ) → length n ≡ 5 → length m ≡ 5 → ((x : Stage) → count_in n x ≡ count_in m x) → n ≡ m
+same_pages : (n m : List ℕ) → length n ≡ 5 → length m ≡ 5 → ((x : Stage) → stage_count n x ≡ stage_count m x) → n ≡ m
 same_pages n m size other same = ext_get_or 0 n m (size ∙ sym other) (λ i low. at i (omega (arith, low, size))) where
   at : (i : ℕ) → i < 5 → get_or n i 0 ≡ get_or m i 0
   at zero low = same Allocated
@@ -98,7 +98,7 @@ may_enter s h n m o x same few may is = grind (arith, count_left, count_at, no_m
 pages_push : (s : Shape) (h : History) (e : Event) (n : List ℕ) (o u : Option Stage) → IsLegal s h → Fits s h e → n ≡ pages_at s h → MayLeave n o → o ≡ option_and_then (stage_of s h) (event_page e.what) → u ≡ option_and_then (stage_of s (h ++ e ∷ [])) (event_page e.what) →
     entered (left n o) u ≡ pages_at s (h ++ e ∷ [])
 pages_push s h e n o u l f same may before after = same_pages (entered (left n o) u) (pages_at s k) (length_entered (left n o) u ∙ left_size) refl (λ x.
-    omega (arith, count_entered (left n o) x u left_size, count_left n x o size may, ap (λ (m : List ℕ). count_in m x) same, count_at s h x, count_at s k x, ap (one x) before, ap (one x) after, by_page x (event_page e.what) refl)) where
+    omega (arith, count_entered (left n o) x u left_size, count_left n x o size may, ap (λ (m : List ℕ). stage_count m x) same, count_at s h x, count_at s k x, ap (one x) before, ap (one x) after, by_page x (event_page e.what) refl)) where
       k : History
       k = h ++ e ∷ []
 
@@ -149,10 +149,10 @@ stages_push s h e ss u f same after = ap (λ xs. staged xs (event_page e.what) u
     inside true low = one_staged (stage_of s h) (stage_of s k) p (ltb-true p 60 low) others
     inside false high = same_stages (stage_of s h) (stage_of s k) (λ i low. others i (λ z. omega (arith, z, low, ltb-false p 60 high)))
 
-pub goes_on : (r t : Replayed) (e : Event) (m v : List ℕ) (ss : List (Option Stage)) (cs ds : List Numbers) (old new : Numbers) (o u : Option Stage) → GoesAlong r old cs → t ≡ with_event r e → Fits r.shape r.history e →
+pub goes_on : (r t : Replayed) (e : Event) (m v : List ℕ) (ss : List (Option Stage)) (cs ds : List Numbers) (old new : Numbers) (o u : Option Stage) → GoesAlong r old cs → t ≡ replayed_with r e → Fits r.shape r.history e →
     MayLeave old.pages o → o ≡ option_and_then (stage_of r.shape r.history) (event_page e.what) → u ≡ option_and_then (stage_of t.shape t.history) (event_page e.what) →
     m ≡ left old.pages o → v ≡ entered m u → ss ≡ staged old.stages (event_page e.what) u → (IsLegal t.shape t.history → v ≡ pages_at t.shape t.history → ss ≡ stages_at t.shape t.history → new ≡ numbers_at t.shape t.history) → ds ≡ cs ++ new ∷ [] → GoesAlong t new ds
-goes_on r t e m v ss cs ds old new o u along is f may before after leaves enters stages told more =
+goes_on r t e m v ss cs ds old new o u along is f may before after leaves enters stages reported more =
     let s : Shape = r.shape in
     let h : History = r.history in
     let legal : IsLegal s (h ++ e ∷ []) = legal_push s h e along.legal f in
@@ -162,7 +162,7 @@ goes_on r t e m v ss cs ds old new o u along is f may before after leaves enters
     let staged_are : ss ≡ stages_at s (h ++ e ∷ []) =
     stages ∙ stages_push s h e old.stages u f (ap (λ (n : Numbers). n.stages) along.numbers_are) (after ∙ ap (λ (x : Replayed). option_and_then (stage_of x.shape x.history) (event_page e.what)) is) in
     let numbers_is : new ≡ numbers_at s (h ++ e ∷ []) =
-    subst (λ (x : Replayed). IsLegal x.shape x.history → v ≡ pages_at x.shape x.history → ss ≡ stages_at x.shape x.history → new ≡ numbers_at x.shape x.history) is told legal pages staged_are in
+    subst (λ (x : Replayed). IsLegal x.shape x.history → v ≡ pages_at x.shape x.history → ss ≡ stages_at x.shape x.history → new ≡ numbers_at x.shape x.history) is reported legal pages staged_are in
     subst (λ (x : Replayed). GoesAlong x new ds) (sym is) (record {
       legal = legal;
       numbers_are = numbers_is;
@@ -172,13 +172,13 @@ goes_on r t e m v ss cs ds old new o u along is f may before after leaves enters
 pub begins_along : (r : Replayed) (n : List ℕ) (ss : List (Option Stage)) (cs : List Numbers) (numbers : Numbers) → r.history ≡ [] → n ≡ replicate 5 0 →
     ss ≡ replicate 60 None → (IsLegal r.shape r.history → n ≡ pages_at r.shape r.history → ss ≡ stages_at r.shape r.history → numbers ≡ numbers_at r.shape r.history) → cs ≡ numbers ∷ [] → GoesAlong r numbers cs
 unfolding count_of sum_below some_event
-begins_along r n ss cs numbers none no_page no_stage told is =
+begins_along r n ss cs numbers none no_page no_stage reported is =
     let P : History → Type 0 = λ h. (IsLegal r.shape h → n ≡ pages_at r.shape h → ss ≡ stages_at r.shape h → numbers ≡ numbers_at r.shape h) → GoesAlong (record { shape = r.shape; history = h }) numbers cs in
-    subst P (sym none) (λ told. record {
+    subst P (sym none) (λ reported. record {
       legal = legal_none r.shape;
-      numbers_are = told (legal_none r.shape) no_page no_stage;
-      columns_are = is ∙ ap (λ x. x ∷ []) (told (legal_none r.shape) no_page no_stage);
-    }) told
+      numbers_are = reported (legal_none r.shape) no_page no_stage;
+      columns_are = is ∙ ap (λ x. x ∷ []) (reported (legal_none r.shape) no_page no_stage);
+    }) reported
 
 pub same_replays : (r t : Replayed) → r.shape ≡ t.shape → r.history ≡ t.history → r ≡ t
 same_replays r t shapes events = grind arith

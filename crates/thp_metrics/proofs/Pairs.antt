@@ -1,7 +1,7 @@
 -- Columns that are joined in pairs.
 use Rattle.std.proofs.Common.{◌≡◌, ℕ, suc, zero, ◌+◌, ◌*◌, ◌^◌, ◌-◌, ◌<◌, ◌≤◌, List, [], ◌∷◌, ◌++◌, length, map, take, drop, get_or, set, refl, ap, subst, sym, ◌∙◌, arith, append_assoc, length-append, take_at}
 use Rattle.std.proofs.lemmas.List.{drop_more, get_or-append_right, get_or-drop, get_or_default, length-take-le, set_at, take_all, take_more}
-use Rattle.thp_metrics.specs.Prelude.{Column, Numbers, column_of, AreFull, AllLow, all_of, both, in_pairs, AreLow, AreWithin, FitTogether}
+use Rattle.thp_metrics.specs.Prelude.{Column, Numbers, column_of, AreFull, AllLow, all_of, both, in_pairs, ColumnsAreLow, AreWithin, FitTogether}
 use Rattle.thp_metrics.proofs.Spans.{column_append, low_append}
 
 pub lows_fit : (a b : List ℕ) → AreWithin (2 ^ 126) a → AreWithin (2 ^ 126) b → FitTogether a b
@@ -56,7 +56,7 @@ pair_at m (suc i) (a ∷ b ∷ more) d e l =
     let two : suc i + suc i ≡ suc (suc (i + i)) = omega arith in
     rw two (pair_at (m - 1) i more d (omega (arith, e)) (omega (arith, l)))
 
-low_at : (cs : List Column) (i : ℕ) (d : Column) → AreLow cs → i < length cs → AreWithin (2 ^ 126) (get_or cs i d).pages
+low_at : (cs : List Column) (i : ℕ) (d : Column) → ColumnsAreLow cs → i < length cs → AreWithin (2 ^ 126) (get_or cs i d).pages
 low_at [] i d low l = absurd (omega (arith, l))
 low_at (c ∷ cs) zero d low l = low.0
 low_at (c ∷ cs) (suc i) d low l = low_at cs i d low.1 (omega (arith, l))
@@ -91,7 +91,7 @@ one_more_pair m i cs xs x y z e l is here there made =
     ∙ ap (λ begun. begun ++ drop (i + 1) cs) (sym (take_more P i x (omega (arith, length_of_pairs m cs e, l))))
 
 -- the two columns of a pair can be joined
-pub pair_fits : (m i : ℕ) (cs xs : List Column) (x y : Column) → length cs ≡ m + m → i < m → AreLow cs → xs ≡ half_way i cs → x ≡ get_or xs (2 * i) x → y ≡ get_or xs (2 * i + 1) y → FitTogether x.pages y.pages
+pub pair_fits : (m i : ℕ) (cs xs : List Column) (x y : Column) → length cs ≡ m + m → i < m → ColumnsAreLow cs → xs ≡ half_way i cs → x ≡ get_or xs (2 * i) x → y ≡ get_or xs (2 * i + 1) y → FitTogether x.pages y.pages
 pair_fits m i cs xs x y e l low is here there =
     let first : x ≡ get_or cs (2 * i) x = here ∙ ap (λ ys. get_or ys (2 * i) x) is ∙ later m i (2 * i) cs x e l (omega arith) in
     let second : y ≡ get_or cs (2 * i + 1) y = there ∙ ap (λ ys. get_or ys (2 * i + 1) y) is ∙ later m i (2 * i + 1) cs y e l (omega arith) in

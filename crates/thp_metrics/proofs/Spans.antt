@@ -1,4 +1,4 @@
--- What a column tells of the prefixes of two lists, by what it tells of each.
+-- What a column shows of the prefixes of two lists, by what it shows of each.
 use Rattle.std.proofs.Common.{◌≡◌, ℕ, ◌<◌, min, max, List, [], ◌∷◌, ◌++◌, length, map, refl, ap, subst, sym, ◌^◌, ◌*◌, length-append, ◌∙◌, arith, bit_or}
 use Rattle.std.proofs.lemmas.Nat.Bits.{bit_at_or, same_from_bits}
 use Rattle.std.proofs.lemmas.List.{map-append, length-map}

@@ -30,13 +30,13 @@ module _ (s : Shape) (h : History) (n : ℕ) (a : Arrived) (found : List PinCoun
       let low : b < s.blocks = ((legal_homed s h k.legal).from w.0 b (home_waits s h w.0 b w.1).1).below in
       (omega (arith, low, f.size), omega (arith, low, k.size))
 
-  abbrev told : ℕ → ℕ → StuckPage
-  told p b = record { page = p; finds = finds h p; since = since_of a b }
+  abbrev reported : ℕ → ℕ → StuckPage
+  reported p b = record { page = p; finds = finds h p; since = since_of a b }
 
-  told_in : (p b : ℕ) → home s h p ≡ Some b → stuck_by (slice_get found b) (since_of a b) ≡ cond (nat_lt 0 (finds h p)) (told p b ∷ []) []
-  told_in p b y = ap (λ (o : Option PinCount). stuck_by o (since_of a b)) (f.each p b (home_waits s h p b y).1)
+  reported_in : (p b : ℕ) → home s h p ≡ Some b → stuck_by (slice_get found b) (since_of a b) ≡ cond (nat_lt 0 (finds h p)) (reported p b ∷ []) []
+  reported_in p b y = ap (λ (o : Option PinCount). stuck_by o (since_of a b)) (f.each p b (home_waits s h p b y).1)
 
-  is_stuck : (p b : ℕ) → home s h p ≡ Some b → 0 < finds h p → IsStuck s h (told p b)
+  is_stuck : (p b : ℕ) → home s h p ≡ Some b → 0 < finds h p → IsStuck s h (reported p b)
   is_stuck p b y some = grind (arith, home_waits)
 
   -- so far as these blocks go
@@ -49,29 +49,29 @@ module _ (s : Shape) (h : History) (n : ℕ) (a : Arrived) (found : List PinCoun
   one_more : (b : ℕ) (bs : List ℕ) (xs : List StuckPage) (p : ℕ) → home s h p ≡ Some b → Ascends a.since (b ∷ bs) → Part bs xs → Part (b ∷ bs) (stuck_by (slice_get found b) (since_of a b) ++ xs)
   one_more b bs xs p y up part =
       let P : List StuckPage → Type 0 = λ ys. Part (b ∷ bs) (ys ++ xs) in
-      subst P (sym (told_in p b y)) (go (nat_lt 0 (finds h p)) refl) where
+      subst P (sym (reported_in p b y)) (go (nat_lt 0 (finds h p)) refl) where
         same_page : (q : ℕ) → home s h q ≡ Some b → p ≡ q
         same_page q z = (legal_homed s h k.legal).once p q b (home_waits s h p b y).1 (home_waits s h q b z).1
 
-        go : (t : Bool) → nat_lt 0 (finds h p) ≡ t → Part (b ∷ bs) (cond t (told p b ∷ []) [] ++ xs)
+        go : (t : Bool) → nat_lt 0 (finds h p) ≡ t → Part (b ∷ bs) (cond t (reported p b ∷ []) [] ++ xs)
         go true z = record {
           each = λ x m.
-              elim (cases_of (told p b) xs x m) [
+              elim (cases_of (reported p b) xs x m) [
                 | inl same ↦ let P : StuckPage → Type 0 = IsStuck s h in subst P (sym same) (is_stuck p b y (ltb-true 0 (finds h p) z))
                 | inr more ↦ part.each x more
               ];
           from = λ x m.
-              elim (cases_of (told p b) xs x m) [
+              elim (cases_of (reported p b) xs x m) [
                 | inl same ↦ (b, Contains-head b bs, ap (λ (w : StuckPage). w.since) same)
                 | inr more ↦ let w = part.from x more in (w.0, Contains-behind b bs w.0 w.1, w.2)
               ];
           all = λ q d at m some.
               elim (Contains-cons_cases b bs d m) [
-                | inl same ↦ (told p b, same_page q (at ∙ ap (λ (i : ℕ). Some i) same), head_of (told p b) xs)
-                | inr more ↦ let w = part.all q d at more some in (w.0, w.1, after_of (told p b) xs w.0 w.2)
+                | inl same ↦ (reported p b, same_page q (at ∙ ap (λ (i : ℕ). Some i) same), head_of (reported p b) xs)
+                | inr more ↦ let w = part.all q d at more some in (w.0, w.1, after_of (reported p b) xs w.0 w.2)
               ];
           in_order =
-              AllPairs-cons (λ (x y : StuckPage). x.since < y.since) (told p b) xs
+              AllPairs-cons (λ (x y : StuckPage). x.since < y.since) (reported p b) xs
               (each_of (λ (x : StuckPage). since_of a b < x.since) xs (λ x m. let w = part.from x m in omega (arith, up.0 w.0 w.1, w.2)))
               part.in_order;
         }

@@ -2,7 +2,7 @@
 use Rattle.std.proofs.Common.{◌≡◌, ◌⊎◌, ℕ, zero, suc, ◌+◌, ◌*◌, ◌^◌, ◌<◌, ◌≤◌, List, [], ◌∷◌, ◌++◌, length, map, drop, ap, sym, ◌∙◌, inl, inr, subst, arith, append_assoc, length-append, take_at, drop_at, pow_pos}
 use Rattle.std.proofs.Math.Nat.{pow-suc, mul-le-mul_left, mul-le-mul_right}
 use Rattle.std.proofs.lemmas.List.{take_all, drop_all, length-map, map-append}
-use Rattle.thp_metrics.specs.Prelude.{Column, Folded, Numbers, column_of, columns_of, parts, sums_of, IsWidth, AreLow, AreWithin, AreFull, AllLow, HasLowSums, all_of, Folds, HasRoomForOne}
+use Rattle.thp_metrics.specs.Prelude.{Column, Folded, Numbers, column_of, columns_of, parts, sums_of, IsWidth, ColumnsAreLow, AreWithin, AreFull, AllLow, HasLowSums, all_of, Folds, HasRoomForOne}
 
 length_of_all : (w : ℕ) (xss : List (List Numbers)) → AreFull w xss → length (all_of xss) ≡ length xss * w
 length_of_all w [] full = omega arith
@@ -26,7 +26,7 @@ narrow past f h few = elim h.needed [
 low_sums : (ns : List Numbers) → length ns ≤ 2 ^ 62 → HasLowSums ns → AreWithin (2 ^ 126) (sums_of ns)
 low_sums ns few low = grind arith
 
-columns_are_low : (w : ℕ) (xss : List (List Numbers)) → w ≤ 2 ^ 62 → AreFull w xss → AllLow xss → AreLow (map column_of xss)
+columns_are_low : (w : ℕ) (xss : List (List Numbers)) → w ≤ 2 ^ 62 → AreFull w xss → AllLow xss → ColumnsAreLow (map column_of xss)
 columns_are_low w [] few full low = tt
 columns_are_low w (xs ∷ xss) few full low = (low_sums xs (omega (arith, few, full.0)) low.0, columns_are_low w xss few full.1 low.1)
 
@@ -38,7 +38,7 @@ has_room past f h few =
       few = omega (arith, count, h.few);
       capacity = h.capacity;
       some = omega (arith, h.room, h.some);
-      low = subst AreLow (sym h.full_are) (columns_are_low f.width h.full (narrow past f h few) h.each h.low);
+      low = subst ColumnsAreLow (sym h.full_are) (columns_are_low f.width h.full (narrow past f h few) h.each h.low);
       last_low = subst (λ (c : Column). AreWithin (2 ^ 126) c.pages) (sym h.last_is) (low_sums h.last (omega (arith, narrow past f h few, h.room)) h.last_low);
       width = λ none. full_count f.width (length f.full.items) (length h.full) (length h.last) (length past) count (omega (arith, h.room, none)) (length_of_past past f h) few;
     }

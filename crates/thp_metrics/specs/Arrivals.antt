@@ -16,12 +16,12 @@ abbrev pub since_of : Arrived → ℕ → ℕ
 since_of a b = get_or a.since b 0
 
 -- the event with which the first of them began
-abbrev pub first_of : List ℕ → List ℕ → Option ℕ
-first_of [] since = None
-first_of (b ∷ bs) since = Some (get_or since b 0)
+abbrev pub first_arrival : List ℕ → List ℕ → Option ℕ
+first_arrival [] since = None
+first_arrival (b ∷ bs) since = Some (get_or since b 0)
 
 abbrev pub first_since : Arrived → Option ℕ
-first_since a = first_of a.order a.since
+first_since a = first_arrival a.order a.since
 
 -- the numbers at these indices ascend
 abbrev pub Ascends : List ℕ → List ℕ → Type 0
@@ -29,7 +29,7 @@ Ascends ns [] = ⊤
 Ascends ns (b ∷ bs) = ((c : ℕ) → Contains bs c → get_or ns b 0 < get_or ns c 0) × Ascends ns bs
 
 -- the links of the blocks hold the order
-pub record AreLinked (order : List ℕ) (since : List ℕ) (ls : List Link) : Type 0 where
+pub record OrderIsLinked (order : List ℕ) (since : List ℕ) (ls : List Link) : Type 0 where
   pub sizes : length since ≡ length ls
   pub stands : Stands order ls
 

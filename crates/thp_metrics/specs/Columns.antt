@@ -4,7 +4,7 @@ use Rattle.thp_metrics.specs.declared.column.Column.{Column}
 use Rattle.thp_metrics.specs.declared.numbers.Numbers.{Numbers}
 use Rattle.thp_metrics.specs.declared.stage.Stage.{Stage}
 use Rattle.thp_metrics.specs.Spans.{span_of}
-use Rattle.thp_metrics.specs.Stages.{all_stages, count_in}
+use Rattle.thp_metrics.specs.Stages.{all_stages, stage_count}
 
 -- the greatest number of columns of a node
 abbrev pub max_columns : ℕ
@@ -25,7 +25,7 @@ parts (suc m) w (x ∷ xs) = take w (x ∷ xs) ∷ parts m w (drop w (x ∷ xs))
 
 -- the number of pages in each stage, summed over prefixes
 abbrev pub sums_of : List Numbers → List ℕ
-sums_of ns = map (λ x. sum_by (λ (n : Numbers). count_in n.pages x) ns) all_stages
+sums_of ns = map (λ x. sum_by (λ (n : Numbers). stage_count n.pages x) ns) all_stages
 
 -- the callers that have pages in their batches after one of some prefixes
 abbrev pub all_callers : List Numbers → ℕ

@@ -10,27 +10,27 @@ use Rattle.thp_metrics.specs.declared.waiting.StuckPage.{StuckPage}
 use Rattle.thp_metrics.specs.Arrivals.{Arrived, since_of}
 use Rattle.thp_metrics.specs.Stuck.{finds}
 
-abbrev pub one_more : PinCount → PinCount
-one_more f = record f { finds = f.finds + 1 }
+abbrev pub one_more_pin : PinCount → PinCount
+one_more_pin f = record f { finds = f.finds + 1 }
 
-abbrev pub counted : List PinCount → ℕ → Option PinCount → List PinCount
-counted found b None = found
-counted found b (Some f) = set found b (one_more f)
+abbrev pub with_pin_count : List PinCount → ℕ → Option PinCount → List PinCount
+with_pin_count found b None = found
+with_pin_count found b (Some f) = set found b (one_more_pin f)
 
 -- the counts after one more event, whose page waits in this block, if it waits
 abbrev pub noted : List PinCount → What → Option ℕ → List PinCount
 noted found (Alloc p b) home = set found b (record { page = p; finds = 0 })
-noted found (Pinned p) (Some b) = counted found b (slice_get found b)
+noted found (Pinned p) (Some b) = with_pin_count found b (slice_get found b)
 noted found _ home = found
 
 -- there is room for it
-abbrev pub HasRoom : Option PinCount → Type 0
-HasRoom None = ⊥
-HasRoom (Some f) = f.finds + 1 < 2 ^ 64
+abbrev pub PinHasRoom : Option PinCount → Type 0
+PinHasRoom None = ⊥
+PinHasRoom (Some f) = f.finds + 1 < 2 ^ 64
 
 abbrev pub MayNote : List PinCount → What → Option ℕ → Type 0
 MayNote found (Alloc p b) home = b < length found
-MayNote found (Pinned p) (Some b) = HasRoom (slice_get found b)
+MayNote found (Pinned p) (Some b) = PinHasRoom (slice_get found b)
 MayNote found _ home = ⊤
 
 -- each live page is recorded, with its count, by its block

@@ -3,7 +3,7 @@ use Rattle.std.specs.Prelude.{◌≡◌, ◌⊎◌, ⊤, ℕ, ◌+◌, ◌*◌, 
 use Rattle.thp_metrics.specs.declared.columns.Folded.{Folded}
 use Rattle.thp_metrics.specs.declared.numbers.Numbers.{Numbers}
 use Rattle.thp_metrics.specs.Columns.{column_of, max_columns, sums_of}
-use Rattle.thp_metrics.specs.Joining.{AreLow, AreWithin}
+use Rattle.thp_metrics.specs.Joining.{AreWithin, ColumnsAreLow}
 
 -- each list has w elements
 abbrev pub AreFull : {X : Type 0} → ℕ → List (List X) → Type 0
@@ -45,6 +45,6 @@ pub record HasRoomForOne (f : Folded) : Type 0 where
   pub few : length f.full.items < max_columns
   pub capacity : vec_capacity f.full ≡ max_columns
   pub some : 0 < f.width
-  pub low : AreLow f.full.items
+  pub low : ColumnsAreLow f.full.items
   pub last_low : AreWithin (2 ^ 126) f.last.pages
   pub width : f.room ≡ 0 → (length f.full.items + 1) * f.width < 2 ^ 64

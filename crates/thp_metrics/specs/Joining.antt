@@ -3,11 +3,11 @@ use Rattle.std.specs.Prelude.{⊤, ℕ, ◌+◌, ◌^◌, ◌<◌, ◌≤◌, Li
 use Rattle.thp_metrics.specs.declared.column.Column.{Column}
 use Rattle.thp_metrics.specs.declared.stage.Stage.{Stage}
 use Rattle.thp_metrics.specs.Spans.{joined}
-use Rattle.thp_metrics.specs.Stages.{all_stages, count_in}
+use Rattle.thp_metrics.specs.Stages.{all_stages, stage_count}
 
 -- the sums of each stage added
 abbrev pub added : List ℕ → List ℕ → List ℕ
-added a b = map (λ x. count_in a x + count_in b x) all_stages
+added a b = map (λ x. stage_count a x + stage_count b x) all_stages
 
 -- the column of the prefixes of both
 abbrev pub both : Column → Column → Column
@@ -33,13 +33,13 @@ in_pairs (a ∷ b ∷ more) = both a b ∷ in_pairs more
 
 -- each sum is at most this large
 abbrev pub AreWithin : ℕ → List ℕ → Type 0
-AreWithin most sums = (x : Stage) → count_in sums x ≤ most
+AreWithin most sums = (x : Stage) → stage_count sums x ≤ most
 
 -- two columns' sums can be added
 abbrev pub FitTogether : List ℕ → List ℕ → Type 0
-FitTogether a b = (x : Stage) → count_in a x + count_in b x < 2 ^ 128
+FitTogether a b = (x : Stage) → stage_count a x + stage_count b x < 2 ^ 128
 
 -- the same for any two of these columns
-abbrev pub AreLow : List Column → Type 0
-AreLow [] = ⊤
-AreLow (c ∷ more) = AreWithin (2 ^ 126) c.pages × AreLow more
+abbrev pub ColumnsAreLow : List Column → Type 0
+ColumnsAreLow [] = ⊤
+ColumnsAreLow (c ∷ more) = AreWithin (2 ^ 126) c.pages × ColumnsAreLow more

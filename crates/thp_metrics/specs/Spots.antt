@@ -21,8 +21,8 @@ batch_by (at.Batch c) = Some c
 batch_by _ = None
 
 -- the caller whose batch live page p is in
-abbrev pub batch_of : Shape → History → ℕ → Option ℕ
-batch_of s h p = if is_live h p then batch_by (standing_of s h p) else None
+abbrev pub flight_holder : Shape → History → ℕ → Option ℕ
+flight_holder s h p = if is_live h p then batch_by (standing_of s h p) else None
 
 -- it is this caller
 abbrev pub is_caller : ℕ → Option ℕ → Bool

@@ -48,8 +48,8 @@ abbrev pub pages_at : Shape → History → List ℕ
 pages_at s h = map (pages_in s h) all_stages
 
 -- the number for this stage, among those for all stages
-abbrev pub count_in : List ℕ → Stage → ℕ
-count_in counts x = get_or counts (rank x) 0
+abbrev pub stage_count : List ℕ → Stage → ℕ
+stage_count counts x = get_or counts (rank x) 0
 
 -- the number of pages whose individual stages are recorded
 abbrev pub shown_pages : ℕ

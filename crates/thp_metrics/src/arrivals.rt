@@ -1,6 +1,6 @@
 //! The order in which pages began to wait, by block.
 ghost use Rattle.std.specs.Prelude.{◌≡◌, ◌<◌, [], ◌∷◌, ◌++◌, length, slice_set, Contains, IfOk};
-ghost use Rattle.thp_links.specs.Prelude.{without};
+ghost use Rattle.thp_links.specs.Prelude.{without_index};
 ghost use Rattle.thp_metrics.specs.Arrivals.{first_since, since_of};
 
 use std::alloc::{AllocError, Global};
@@ -17,13 +17,13 @@ pub(crate) struct Arrivals {
 }
 
 impl Model for Arrivals {
-    ghost use Rattle.thp_metrics.specs.Arrivals.{Arrived, AreLinked};
+    ghost use Rattle.thp_metrics.specs.Arrivals.{Arrived, OrderIsLinked};
 
     ghost Value = { Arrived };
 
     ghost view = { λ a. record { order = a.order; since = a.since.items } };
 
-    ghost invariant = { λ a. AreLinked a.order a.since.items a.links.pairs };
+    ghost invariant = { λ a. OrderIsLinked a.order a.since.items a.links.pairs };
 }
 
 impl Arrivals {
@@ -53,7 +53,7 @@ impl Arrivals {
     // The page of a block no longer waits.
     pub(crate) fn go(&mut self, block: u32)
         requires { Contains self.old.order block }
-        ensures order { self.new.order ≡ without block self.old.order }
+        ensures order { self.new.order ≡ without_index block self.old.order }
         ensures since { self.new.since ≡ self.old.since }
     {
         self.order.remove(&mut self.links, block);

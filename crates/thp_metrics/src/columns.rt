@@ -1,6 +1,6 @@
 //! The columns of a node, which are merged in pairs when there are too many.
 ghost use Rattle.std.specs.Prelude.{◌≡◌, ◌+◌, ◌<◌, ◌^◌, ℕ, [], ◌∷◌, ◌++◌, length, IfOk, ◌*◌, List, vec_capacity};
-ghost use Rattle.thp_metrics.specs.Prelude.{AreLow, AreWithin, Folds, HasRoomForOne, IsWidth, Numbers, column_of, columns_of, in_pairs};
+ghost use Rattle.thp_metrics.specs.Prelude.{AreWithin, ColumnsAreLow, Folds, HasRoomForOne, IsWidth, Numbers, column_of, columns_of, in_pairs};
 
 use crate::column::Column;
 use crate::numbers::Numbers;
@@ -135,7 +135,7 @@ impl Folded {
 // Merges each column with its neighbour.
 fn fold(columns: &mut Vec<Column>)
     requires count { length columns.old.items ≡ 600 }
-    requires few { AreLow columns.old.items }
+    requires few { ColumnsAreLow columns.old.items }
     ensures columns { columns.new.items ≡ in_pairs columns.old.items }
     ensures capacity { vec_capacity columns.new ≡ vec_capacity columns.old }
 {

@@ -1,8 +1,8 @@
 //! The numbers of a node, event by event.
 ghost use Rattle.std.specs.Prelude.{◌≡◌, ◌≤◌, ◌<◌, ◌+◌, ◌^◌, [], length, IfOk, IfErr, Some, replicate};
 ghost use Rattle.thp_history.specs.Prelude.{least_free, Fits, IsLegal, max_order, min_order};
-ghost use Rattle.thp_check.specs.Prelude.{Explains, with_event};
-ghost use Rattle.thp_metrics.specs.Prelude.{AreStuck, CountsBatches, numbers_at, pages_at, series, staged, stages_at, batch_of, home, stage_of};
+ghost use Rattle.thp_check.specs.Prelude.{Explains, replayed_with};
+ghost use Rattle.thp_metrics.specs.Prelude.{AreStuck, CountsBatches, numbers_at, pages_at, series, staged, stages_at, flight_holder, home, stage_of};
 ghost use Rattle.std.specs.Option.{option_and_then};
 ghost use Rattle.thp_journal_writer.specs.Prelude.{event_page};
 
@@ -100,7 +100,7 @@ impl NodeSeries {
     /// Adds an event, if it fits the events so far; otherwise returns why it does not, and the numbers of those before it.
     pub fn admit(self, event: &Event) -> Result<NodeSeries, SeriesEnd>
         requires room { length self.history + 1 < 2 ^ 64 }
-        ensures admitted { IfOk result (λ n. n ≡ with_event self event.now) }
+        ensures admitted { IfOk result (λ n. n ≡ replayed_with self event.now) }
         ensures fits { IfOk result (λ n. Fits self.shape self.history event.now) }
         ensures misfit { IfErr result (λ x. Fits self.shape self.history event.now → ⊥) }
         ensures why { IfErr result (λ x. Explains self.shape self.history event.now x.misfit) }
@@ -244,7 +244,7 @@ const NOWHERE: PagePlace = PagePlace {
 pub(crate) fn spot_in(replay: &Replay, what: &What) -> PagePlace
     ensures stage { result.stage ≡ option_and_then (stage_of replay.now.shape replay.now.history) (event_page what.now) }
     ensures home { result.home ≡ option_and_then (home replay.now.shape replay.now.history) (event_page what.now) }
-    ensures batch { result.batch ≡ option_and_then (batch_of replay.now.shape replay.now.history) (event_page what.now) }
+    ensures batch { result.batch ≡ option_and_then (flight_holder replay.now.shape replay.now.history) (event_page what.now) }
 {
     let Some(page) = event_page(what) else {
         return NOWHERE;

@@ -3,7 +3,7 @@ ghost use Rattle.std.specs.Prelude.{◌≡◌, ◌<◌, ◌+◌, ◌^◌, ℕ, [
 ghost use Rattle.std.specs.Option.{option_and_then};
 ghost use Rattle.thp_history.specs.Prelude.{Fits};
 ghost use Rattle.thp_journal_writer.specs.Prelude.{event_page};
-ghost use Rattle.thp_check.specs.Prelude.{with_event};
+ghost use Rattle.thp_check.specs.Prelude.{replayed_with};
 ghost use Rattle.thp_metrics.specs.Prelude.{AreStuck, home, longest_wait, noted, stuck_among, MayNote};
 
 use crate::arrivals::Arrivals;
@@ -69,7 +69,7 @@ impl Waiting {
         requires fits { Fits self.old.shape self.old.history event.now }
         requires before { before ≡ option_and_then (home self.old.shape self.old.history) (event_page event.now.what) }
         requires after { after ≡ option_and_then (home self.old.shape (self.old.history ++ event.now ∷ [])) (event_page event.now.what) }
-        ensures { self.new ≡ with_event self.old event.now }
+        ensures { self.new ≡ replayed_with self.old event.now }
     {
         self.events += 1;
         count_find(&mut self.finds, &event.what, after);

@@ -68,7 +68,7 @@ pub unrefused_take : (s : Shape) (h : History) (c : ℕ) → length (flight h c)
 unfolding refusal
 unrefused_take s h c e = grind arith
 
--- whether a page is in a caller's flight is told by where the page of its block stands
+-- whether a page is in a caller's flight is determined by where the page of its block stands
 pub flies_there : (s : Shape) (h : History) (t : Table) (q : List ℕ) (c p b : ℕ) → IsNode s h t q → (w : Found s h t p b) → w.slot.standing ≡ Batch c → has_page p (flight h c) ≡ true
 flies_there s h t q c p b m w e =
     ap (λ r. has_page r (flight h c)) (sym w.id_is) ∙ (batch_has s h w.slot.id c (sym w.is.stands ∙ e)).0
@@ -161,7 +161,7 @@ module _ (s : Shape) (h : History) (c p b : ℕ) (old : PageStoreState) (m : IsN
 pub take_length : (s : Shape) (h : History) (c n : ℕ) → length (take_events s h c n) ≡ min n (length (queue s h))
 take_length s h c n = length-map (take n (queue s h)) (λ p. by c (what.Taken p)) ∙ length-take n (queue s h)
 
--- where a page in flight lies, told of a node's parts
+-- where a page in flight lies, stated of a node's parts
 pub flies_inside : (inside now : NodeState) (c p b : ℕ) → inside ≡ now → IsFlyingAt now.table c p b → IsFlyingAt inside.table c p b
 flies_inside inside now c p b is w = record { slot = w.slot; at = ap (λ (n : NodeState). slot_at n.table b) is ∙ w.at; id_is = w.id_is; stands = w.stands }
 

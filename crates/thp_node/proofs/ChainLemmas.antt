@@ -9,7 +9,7 @@ use Rattle.thp_page.specs.Prelude.{slot_at, Slot, Table}
 use Rattle.thp_page.proofs.TableSlots.{slot_at-inside}
 use Rattle.thp_history.specs.declared.page_call.Done.{Done}
 use Rattle.thp_history.specs.declared.page_call.Loss.{Loss}
-use Rattle.thp_live_pages.specs.Prelude.{IsFreeChain, Relinks, PageStoreState, Edits, HasFree, Lost, slot_after, queue_after}
+use Rattle.thp_live_pages.specs.Prelude.{IsFreeChain, Relinks, PageStoreState, Edits, HasFree, Lost, slot_after, queue_by_outcome}
 use Rattle.thp_live_pages.proofs.FreeChains.{free_chain_kept, not_free}
 use Rattle.thp_live_pages.proofs.Relinking.{edited_slot, taken}
 use Rattle.thp_node.specs.Prelude.{HasChain}
@@ -88,9 +88,9 @@ freed_there loss closed now old new b done left is some lost e =
     let P : PageStoreState → Type 0 = λ n. IsSome (slot_at n.table b) in
     let w = taken (slot_at old.table b) (subst P (sym is) some) in
     let m : Lost loss closed w.0 old new b done left = lost w.0 w.1 in
-    let E : Outcome → Type 0 = λ o. Edits old new b (slot_after o (record w.0 { page = m.page })) (queue_after o b old.queue) 6 in
+    let E : Outcome → Type 0 = λ o. Edits old new b (slot_after o (record w.0 { page = m.page })) (queue_by_outcome o b old.queue) 6 in
     let f : E outcome.Freed = subst E e m.edits in
-    record { slot = w.0; queue = queue_after outcome.Freed b old.queue; at = w.1; edits = f }
+    record { slot = w.0; queue = queue_by_outcome outcome.Freed b old.queue; at = w.1; edits = f }
 
 -- a loss that didn't
 pub loss_keeps : (loss : Loss) (closed : Bool) (x : Slot) (old new : PageStoreState) (b : ℕ) (done : Done) (left : Option ℕ) → Lost loss closed x old new b done left → (done.outcome ≡ outcome.Freed → ⊥) →

@@ -21,7 +21,7 @@ loss_leaves : (s : Shape) (h : History) (c p : ℕ) (l : Loss) (o : Outcome) (se
     (if is_freed o then flier p (flights h) else None) ≡ leaves_of h c (loss_what l p o set)
 loss_leaves s h c p l x set = grind arith
 
--- the event fits and tells what it did, with out of whose flight the page went, and the node holds what it should
+-- the event fits and reports what it did, with out of whose flight the page went, and the node holds what it should
 pub record Losing (s : Shape) (h : History) (c p : ℕ) (l : Loss) (old new : PageStoreState) (done : Done) (left : Option ℕ) : Type 0 where
   pub gives : Gives s h (h ++ by c (loss_what l p done.outcome done.released) ∷ []) p done.outcome done.released
   pub fits : Fits s h (by c (loss_what l p done.outcome done.released))

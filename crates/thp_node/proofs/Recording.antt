@@ -10,7 +10,7 @@ use Rattle.thp_history.specs.declared.shape.Shape.{Shape}
 use Rattle.thp_history.specs.declared.tally.SplitContext.{SplitContext}
 use Rattle.thp_history.proofs.LegalSteps.{legal_none, legal_push}
 use Rattle.thp_history.proofs.Pushes.{count_of_push, some_event_push}
-use Rattle.thp_node.specs.Prelude.{NodeTally, IsJournal, leaves_of, one_for, CanLeave, HasCountRoom, Moves, Counts}
+use Rattle.thp_node.specs.Prelude.{NodeTally, IsJournal, leaves_of, one_for, CanLeave, HasCountRoom, FlightsMove, Counts}
 use Rattle.thp_node.proofs.JournalLemmas.{flight_moves, leaves_one}
 use Rattle.thp_history.proofs.Totals.{few_events, adds_none, has_room, adds_push, adds_loss}
 
@@ -72,7 +72,7 @@ journal_push shape h c w leaves split old new j f left said a =
     }
 
 -- what an unmap or an unpin adds to the numbers
-pub counts_lost : (old new : NodeTally) (c p : ℕ) (l : Loss) (o : Outcome) (set : List Bool) (left : Option ℕ) (split : SplitContext) → Moves old.flying new.flying None left →
+pub counts_lost : (old new : NodeTally) (c p : ℕ) (l : Loss) (o : Outcome) (set : List Bool) (left : Option ℕ) (split : SplitContext) → FlightsMove old.flying new.flying None left →
     new.sums ≡ with_loss o set old.sums → new ≡ record old { flying = new.flying; sums = new.sums } →
     Counts old new c (loss_what l p o set) left split
 counts_lost old new c p x o set left split moves adds rest = grind (arith, adds_loss)

@@ -48,10 +48,10 @@ back_all s r h k c p b old new m w f edits e g =
     back_node s h c b w.slot old new (legal_homed s h m.legal) m w.at w.stands (subst F (sym w.id_is) f) (edits w.slot w.at) in
     subst (λ t. N t k) (sym e) (subst (λ j. N s j) (ap (λ z. h ++ by c (what.Back z) ∷ []) w.id_is ∙ sym g) node)
 
--- whether a page goes back is told by the node and by the page
-pub goes_back_told : (s : Shape) (h : History) (c p b : ℕ) (old : PageStoreState) (z partly : Bool) → IsNode s h old.table old.queue → (w : IsFlyingAt old.table c p b) → z ≡ is_closed h →
+-- whether a page goes back is determined by the node and by the page
+pub goes_back_reported : (s : Shape) (h : History) (c p b : ℕ) (old : PageStoreState) (z partly : Bool) → IsNode s h old.table old.queue → (w : IsFlyingAt old.table c p b) → z ≡ is_closed h →
     AtSlot old.table b (λ x. partly ≡ x.page.partly) → (not z && partly) ≡ goes_back s h p
-goes_back_told s h c p b old z partly m w shut told = grind (arith, partly_there)
+goes_back_reported s h c p b old z partly m w shut reported = grind (arith, partly_there)
 
 -- the return of the first page of a flight fits
 pub back_may : (s : Shape) (h : History) (c p : ℕ) → goes_back s h p ≡ true → slice_get (flight h c) 0 ≡ Some p → Fits s h (by c (what.Back p))

@@ -21,7 +21,7 @@ use Rattle.thp_history.proofs.Standing.{times}
 use Rattle.thp_history.proofs.ScanRuns.{TakesLeave, takes_leave}
 use Rattle.thp_history.proofs.TakeRuns.{take_runs, none_flies}
 use Rattle.thp_history.proofs.TryRuns.{Tried, try_as, tries_run}
-use Rattle.thp_node.specs.Prelude.{IsInFront, BatchState, rest, tried as answer_of, back_reply, scan_reply, is_taken, is_split_off, is_pinned_found, is_used_found, is_back, is_dropped, Tried as Answer, BackReply, ScanReply, Did, Refused, NodeState, events_after, is_used, used_count}
+use Rattle.thp_node.specs.Prelude.{IsInFront, BatchState, rest, tried as answer_of, back_reply, scan_reply, takes_page, is_split_off, is_pinned_found, is_used_found, is_back, drops_page, Tried as Answer, BackReply, ScanReply, Did, Refused, NodeState, events_after, is_tried_used, used_count}
 use Rattle.thp_node.specs.declared.answers.Tried.TheVariants as answer
 use Rattle.thp_node.proofs.CallLemmas.{did_then}
 
@@ -30,12 +30,12 @@ in_middle p [] ys = or_first (nat_eq p p) _ (eq-eqb p p refl)
 in_middle p (x ∷ xs) ys = or_second (nat_eq x p) _ (in_middle p xs ys)
 
 -- a try counts its page where it is in use, and so does its event
-used_answer : (s : Shape) (h : History) (p : ℕ) → used_count (answer_of s h (Some p)) ≡ cond (is_used s h p) 1 0
+used_answer : (s : Shape) (h : History) (p : ℕ) → used_count (answer_of s h (Some p)) ≡ cond (is_tried_used s h p) 1 0
 used_answer s h p = go (is_worth_split s h p) (nat_eq (pins h p) 0) where
   go : (a b : Bool) → used_count (cond a (cond b (answer.Split p) (answer.Pinned p)) (answer.Used p)) ≡ cond (not a) 1 0
   go x y = grind arith
 
-used_of_try : (s : Shape) (h : History) (c p : ℕ) → is_used_found (try_event s h c p).what ≡ is_used s h p
+used_of_try : (s : Shape) (h : History) (c p : ℕ) → is_used_found (try_event s h c p).what ≡ is_tried_used s h p
 used_of_try s h c p = go (is_worth_split s h p) (nat_eq (pins h p) 0) where
   go : (a b : Bool) → is_used_found (try_as s h c p a b).what ≡ not a
   go x y = grind arith
@@ -95,15 +95,15 @@ module _ (a b : NodeState) (c i : ℕ) (ps : List ℕ) (t : BatchState) (l : IsL
 
   -- whether it was found in use
   pub used_more : (r : Answer) → r ≡ answer_of b.shape b.journal (next_page b.journal t.caller (rest t)) →
-      count_by (is_used a.shape a.journal) (take i ps) + used_count r ≡ count_by (is_used a.shape a.journal) (take (i + 1) ps)
+      count_by (is_tried_used a.shape a.journal) (take i ps) + used_count r ≡ count_by (is_tried_used a.shape a.journal) (take (i + 1) ps)
   used_more r e =
       let p : ℕ = get_or ps i 0 in
       let next : next_page b.journal t.caller (rest t) ≡ Some p = ap₂ (next_page b.journal) who left ∙ one_tried.next in
-      let told : used_count r ≡ cond (is_used b.shape b.journal p) 1 0 = ap used_count (e ∙ ap (answer_of b.shape b.journal) next) ∙ used_answer b.shape b.journal p in
-      let same : is_used b.shape b.journal p ≡ is_used a.shape a.journal p =
-      ap (λ z. is_used z b.journal p) did.shape ∙ sym (used_of_try a.shape b.journal c p) ∙ ap (λ (x : Event). is_used_found x.what) one_tried.same ∙ used_of_try a.shape a.journal c p in
-      sym (ap (count_by (is_used a.shape a.journal)) (take_more ps i 0 below) ∙ count_push (is_used a.shape a.journal) (take i ps) p
-      ∙ ap (λ n. count_by (is_used a.shape a.journal) (take i ps) + n) (ap (λ z. cond z 1 0) (sym same) ∙ sym told))
+      let reported : used_count r ≡ cond (is_tried_used b.shape b.journal p) 1 0 = ap used_count (e ∙ ap (answer_of b.shape b.journal) next) ∙ used_answer b.shape b.journal p in
+      let same : is_tried_used b.shape b.journal p ≡ is_tried_used a.shape a.journal p =
+      ap (λ z. is_tried_used z b.journal p) did.shape ∙ sym (used_of_try a.shape b.journal c p) ∙ ap (λ (x : Event). is_used_found x.what) one_tried.same ∙ used_of_try a.shape a.journal c p in
+      sym (ap (count_by (is_tried_used a.shape a.journal)) (take_more ps i 0 below) ∙ count_push (is_tried_used a.shape a.journal) (take i ps) p
+      ∙ ap (λ n. count_by (is_tried_used a.shape a.journal) (take i ps) + n) (ap (λ z. cond z 1 0) (sym same) ∙ sym reported))
 
 -- a refusal for want of memory alone doesn't come where there is room
 pub no_refusal : (a b : NodeState) (m : ℕ) (r : Refusal) → Refused a b None m r → m ≤ a.room → ⊥
@@ -169,11 +169,11 @@ bit b = cond b 1 0
 
 -- how many events of each kind a list has
 pub record Counts (es : List Event) (taken split pinned back dropped used : ℕ) : Type 0 where
-  pub taken_is : count_of is_taken es ≡ taken
+  pub taken_is : count_of takes_page es ≡ taken
   pub split_is : count_of is_split_off es ≡ split
   pub pinned_is : count_of is_pinned_found es ≡ pinned
   pub back_is : count_of is_back es ≡ back
-  pub dropped_is : count_of is_dropped es ≡ dropped
+  pub dropped_is : count_of drops_page es ≡ dropped
   pub used_is : count_of is_used_found es ≡ used
 
 first_counts : (t : What → Bool) (e : Event) (es : List Event) (n : ℕ) → count_of t es ≡ n → count_of t (e ∷ es) ≡ cond (t e.what) 1 0 + n
@@ -195,11 +195,11 @@ pub counts_both : (es gs : List Event) (a b d e f u i j k l m v : ℕ) → Count
 counts_both es gs a b d e f u i j k l m v x y = grind (arith, both_count)
 
 counts_first : (w : Event) (es : List Event) (a b d e f g : ℕ) → Counts es a b d e f g →
-    Counts (w ∷ es) (cond (is_taken w.what) 1 0 + a) (cond (is_split_off w.what) 1 0 + b) (cond (is_pinned_found w.what) 1 0 + d) (cond (is_back w.what) 1 0 + e)
-    (cond (is_dropped w.what) 1 0 + f) (cond (is_used_found w.what) 1 0 + g)
+    Counts (w ∷ es) (cond (takes_page w.what) 1 0 + a) (cond (is_split_off w.what) 1 0 + b) (cond (is_pinned_found w.what) 1 0 + d) (cond (is_back w.what) 1 0 + e)
+    (cond (drops_page w.what) 1 0 + f) (cond (is_used_found w.what) 1 0 + g)
 counts_first w es a b d e f g x = grind (arith, first_counts)
 
--- counts that are told otherwise
+-- counts that are stated otherwise
 counts_as : (es : List Event) (a b d e f g i j k l m n : ℕ) → Counts es a b d e f g → a ≡ i → b ≡ j → d ≡ k → e ≡ l → f ≡ m → g ≡ n → Counts es i j k l m n
 counts_as es a b d e f g i j k l m n x p q r s t u = grind arith
 
@@ -217,24 +217,24 @@ none_pinned n = grind (arith, nat_tests)
 abbrev pub gets_split : Shape → History → ℕ → Bool
 gets_split s h p = is_worth_split s h p && nat_eq (pins h p) 0
 
-pub counts_tries : (s : Shape) (h : History) (c : ℕ) (ps : List ℕ) → Counts (map (try_event s h c) ps) 0 (count_by (gets_split s h) ps) (count_by (is_pinned s h) ps) 0 0 (count_by (is_used s h) ps)
+pub counts_tries : (s : Shape) (h : History) (c : ℕ) (ps : List ℕ) → Counts (map (try_event s h c) ps) 0 (count_by (gets_split s h) ps) (count_by (is_pinned s h) ps) 0 0 (count_by (is_tried_used s h) ps)
 counts_tries s h c [] = counts_none
 counts_tries s h c (p ∷ ps) =
     let a : Bool = is_worth_split s h p in
     let b : Bool = nat_eq (pins h p) 0 in
     let d : Bool = nat_lt 0 (pins h p) in
-    let r = counts_first (try_as s h c p a b) (map (try_event s h c) ps) 0 (count_by (gets_split s h) ps) (count_by (is_pinned s h) ps) 0 0 (count_by (is_used s h) ps) (counts_tries s h c ps) in
+    let r = counts_first (try_as s h c p a b) (map (try_event s h c) ps) 0 (count_by (gets_split s h) ps) (count_by (is_pinned s h) ps) 0 0 (count_by (is_tried_used s h) ps) (counts_tries s h c ps) in
     let w = go a b d (none_pinned (pins h p)) in
-    counts_as (map (try_event s h c) (p ∷ ps)) _ _ _ _ _ _ 0 (count_by (gets_split s h) (p ∷ ps)) (count_by (is_pinned s h) (p ∷ ps)) 0 0 (count_by (is_used s h) (p ∷ ps)) r
+    counts_as (map (try_event s h c) (p ∷ ps)) _ _ _ _ _ _ 0 (count_by (gets_split s h) (p ∷ ps)) (count_by (is_pinned s h) (p ∷ ps)) 0 0 (count_by (is_tried_used s h) (p ∷ ps)) r
     (omega (arith, w.0))
     (ap (λ n. n + count_by (gets_split s h) ps) w.1 ∙ sym (count-cons (gets_split s h) p ps))
     (ap (λ n. n + count_by (is_pinned s h) ps) w.2 ∙ sym (count-cons (is_pinned s h) p ps))
     (omega (arith, w.3)) (omega (arith, w.4))
-    (ap (λ n. n + count_by (is_used s h) ps) w.5 ∙ sym (count-cons (is_used s h) p ps)) where
+    (ap (λ n. n + count_by (is_tried_used s h) ps) w.5 ∙ sym (count-cons (is_tried_used s h) p ps)) where
       go : (a b d : Bool) → b ≡ not d →
-          (bit (is_taken (try_as s h c p a b).what) ≡ 0) × (bit (is_split_off (try_as s h c p a b).what) ≡ bit (a && b))
+          (bit (takes_page (try_as s h c p a b).what) ≡ 0) × (bit (is_split_off (try_as s h c p a b).what) ≡ bit (a && b))
           × (bit (is_pinned_found (try_as s h c p a b).what) ≡ bit (a && d)) × (bit (is_back (try_as s h c p a b).what) ≡ 0)
-          × (bit (is_dropped (try_as s h c p a b).what) ≡ 0) × (bit (is_used_found (try_as s h c p a b).what) ≡ bit (not a))
+          × (bit (drops_page (try_as s h c p a b).what) ≡ 0) × (bit (is_used_found (try_as s h c p a b).what) ≡ bit (not a))
       go true true true e = absurd (cc)
       go true true false e = (refl, refl, refl, refl, refl, refl)
       go true false true e = (refl, refl, refl, refl, refl, refl)
@@ -253,30 +253,30 @@ counts_returns s h c (q ∷ qs) =
     (ap (λ n. n + count_by (drops s h) qs) w.4 ∙ sym (count-cons (drops s h) q qs))
     (omega (arith, w.5)) where
       go : (z : Bool) →
-          (bit (is_taken (return_as z c q).what) ≡ 0) × (bit (is_split_off (return_as z c q).what) ≡ 0) × (bit (is_pinned_found (return_as z c q).what) ≡ 0)
-          × (bit (is_back (return_as z c q).what) ≡ bit (not z)) × (bit (is_dropped (return_as z c q).what) ≡ bit z) × (bit (is_used_found (return_as z c q).what) ≡ 0)
+          (bit (takes_page (return_as z c q).what) ≡ 0) × (bit (is_split_off (return_as z c q).what) ≡ 0) × (bit (is_pinned_found (return_as z c q).what) ≡ 0)
+          × (bit (is_back (return_as z c q).what) ≡ bit (not z)) × (bit (drops_page (return_as z c q).what) ≡ bit z) × (bit (is_used_found (return_as z c q).what) ≡ 0)
       go true = (refl, refl, refl, refl, refl, refl)
       go false = (refl, refl, refl, refl, refl, refl)
 
 pub counts_after : (s : Shape) (h : History) (c : ℕ) (ps : List ℕ) →
     Counts (events_after s h c ps) 0 (count_by (gets_split s h) ps) (count_by (is_pinned s h) ps)
-    (count_by (goes_back s h) (filter (is_pinned s h) ps)) (count_by (drops s h) (filter (is_pinned s h) ps)) (count_by (is_used s h) ps)
+    (count_by (goes_back s h) (filter (is_pinned s h) ps)) (count_by (drops s h) (filter (is_pinned s h) ps)) (count_by (is_tried_used s h) ps)
 counts_after s h c ps =
     let qs : List ℕ = filter (is_pinned s h) ps in
-    let r = counts_both (map (try_event s h c) ps) (map (return_event s h c) qs) 0 (count_by (gets_split s h) ps) (count_by (is_pinned s h) ps) 0 0 (count_by (is_used s h) ps)
+    let r = counts_both (map (try_event s h c) ps) (map (return_event s h c) qs) 0 (count_by (gets_split s h) ps) (count_by (is_pinned s h) ps) 0 0 (count_by (is_tried_used s h) ps)
     0 0 0 (count_by (goes_back s h) qs) (count_by (drops s h) qs) 0 (counts_tries s h c ps) (counts_returns s h c qs) in
-    counts_as (events_after s h c ps) _ _ _ _ _ _ 0 (count_by (gets_split s h) ps) (count_by (is_pinned s h) ps) (count_by (goes_back s h) qs) (count_by (drops s h) qs) (count_by (is_used s h) ps) r
+    counts_as (events_after s h c ps) _ _ _ _ _ _ 0 (count_by (gets_split s h) ps) (count_by (is_pinned s h) ps) (count_by (goes_back s h) qs) (count_by (drops s h) qs) (count_by (is_tried_used s h) ps) r
     (omega arith) (omega arith) (omega arith) (omega arith) (omega arith) (omega arith)
 
 -- each page that is tried is split, found pinned or found in use
-three_kinds : (s : Shape) (h : History) (ps : List ℕ) → count_by (gets_split s h) ps + count_by (is_pinned s h) ps + count_by (is_used s h) ps ≡ length ps
+three_kinds : (s : Shape) (h : History) (ps : List ℕ) → count_by (gets_split s h) ps + count_by (is_pinned s h) ps + count_by (is_tried_used s h) ps ≡ length ps
 three_kinds s h [] = refl
 three_kinds s h (p ∷ ps) =
     omega (
       arith,
       count-cons (gets_split s h) p ps,
       count-cons (is_pinned s h) p ps,
-      count-cons (is_used s h) p ps,
+      count-cons (is_tried_used s h) p ps,
       one (is_worth_split s h p) (nat_eq (pins h p) 0) (nat_lt 0 (pins h p)) (none_pinned (pins h p)),
       three_kinds s h ps,
     ) where
@@ -307,7 +307,7 @@ the_scan a b d e f g = record { taken = a; split = b; pinned = d; back = e; drop
 
 -- the reply of a scan behind its take, by that of the put-back and the pages found in use
 pub after_reply : (s : Shape) (h k : History) (c : ℕ) (ps : List ℕ) (back dropped n used : ℕ) → AllTried s h k c ps → the_reply back dropped ≡ back_reply s k (still_flying k c ps) →
-    n ≡ length ps → used ≡ count_by (is_used s h) ps →
+    n ≡ length ps → used ≡ count_by (is_tried_used s h) ps →
     (used + (back + dropped) ≤ n) × (the_scan n (n - used - (back + dropped)) (back + dropped) back dropped used ≡ record (scan_reply (events_after s h c ps)) { taken = length ps })
 after_reply s h k c ps back dropped n used a e is u =
     let qs : List ℕ = filter (is_pinned s h) ps in
@@ -353,7 +353,7 @@ module _ (a b : NodeState) (t : BatchState) (c : ℕ) (ps : List ℕ) (l : IsLeg
       (subst D tried.returns (subst P pages (subst C who (subst S did.shape m))))
 
   -- what is answered
-  pub tried_reply : (r : BackReply) (n used : ℕ) → r ≡ back_reply b.shape b.journal (still_flying b.journal t.caller t.pages) → n ≡ length ps → used ≡ count_by (is_used a.shape a.journal) ps →
+  pub tried_reply : (r : BackReply) (n used : ℕ) → r ≡ back_reply b.shape b.journal (still_flying b.journal t.caller t.pages) → n ≡ length ps → used ≡ count_by (is_tried_used a.shape a.journal) ps →
       (used + (r.back + r.dropped) ≤ n)
       × (the_scan n (n - used - (r.back + r.dropped)) (r.back + r.dropped) r.back r.dropped used ≡ record (scan_reply (events_after a.shape a.journal c ps)) { taken = length ps })
   tried_reply r n used e is u =

@@ -56,9 +56,9 @@ tried s h (Some p) = if is_worth_split s h p then if nat_eq (pins h p) 0 then Sp
 abbrev pub back_reply : Shape → History → List ℕ → BackReply
 back_reply s h ps = record { back = count_by (goes_back s h) ps; dropped = count_by (drops s h) ps }
 
-abbrev pub is_taken : What → Bool
-is_taken (Taken p) = true
-is_taken _ = false
+abbrev pub takes_page : What → Bool
+takes_page (Taken p) = true
+takes_page _ = false
 
 abbrev pub is_split_off : What → Bool
 is_split_off (SplitOf p set) = true
@@ -76,17 +76,17 @@ abbrev pub is_back : What → Bool
 is_back (Back p) = true
 is_back _ = false
 
-abbrev pub is_dropped : What → Bool
-is_dropped (Dropped p) = true
-is_dropped _ = false
+abbrev pub drops_page : What → Bool
+drops_page (Dropped p) = true
+drops_page _ = false
 
 -- the result of a scan: the number of events of each kind that it recorded
 abbrev pub scan_reply : List Event → ScanReply
 scan_reply es = record {
-  taken = count_of is_taken es;
+  taken = count_of takes_page es;
   split = count_of is_split_off es;
   pinned = count_of is_pinned_found es;
   back = count_of is_back es;
-  dropped = count_of is_dropped es;
+  dropped = count_of drops_page es;
   used = count_of is_used_found es;
 }

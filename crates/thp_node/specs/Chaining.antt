@@ -3,7 +3,7 @@ use Rattle.std.specs.Prelude.{◌≡◌, ℕ, ◌<◌, length, Bool, List, Optio
 use Rattle.thp_page.specs.Prelude.{Slot, Table, slot_at}
 use Rattle.thp_history.specs.declared.page_call.Done.{Done}
 use Rattle.thp_history.specs.declared.page_call.Loss.{Loss}
-use Rattle.thp_live_pages.specs.Prelude.{IsFreeChain, Relinks, PageStoreState, Lost, Placed}
+use Rattle.thp_live_pages.specs.Prelude.{IsFreeChain, Relinks, PageStoreState, Lost, IsPlaced}
 
 -- the chain contains exactly the blocks without a page
 pub record HasChain (t : Table) (f : List ℕ) : Type 0 where
@@ -21,4 +21,4 @@ pub record LostChained (loss : Loss) (closed : Bool) (x : Slot) (old new : PageS
 pub record StoresFresh (old new : PageStoreState) (b p : ℕ) (queued : Bool) : Type 0 where
   pub between : PageStoreState
   pub relinks : Relinks old between 2
-  pub placed : Placed p queued between new b
+  pub placed : IsPlaced p queued between new b

@@ -66,15 +66,15 @@ one_for None d = 0
 one_for (Some c) d = cond (nat_eq c d) 1 0
 
 -- a page can join the flight of caller c, or leave it, as far as the counts of pages in flight allow
-abbrev pub CanJoin : List ℕ → ℕ → Type 0
-CanJoin flying c = (c < max_callers) × (slice_index_or flying c 0 + 1 < 2 ^ 8)
+abbrev pub FlightHasRoom : List ℕ → ℕ → Type 0
+FlightHasRoom flying c = (c < max_callers) × (slice_index_or flying c 0 + 1 < 2 ^ 8)
 
 abbrev pub CanLeave : List ℕ → ℕ → Type 0
 CanLeave flying c = 0 < slice_index_or flying c 0
 
 -- a page joined the flight of one caller, and a page left that of another, if there are such callers
-abbrev pub Moves : List ℕ → List ℕ → Option ℕ → Option ℕ → Type 0
-Moves old new joins leaves = (c : ℕ) → slice_index_or new c 0 + one_for leaves c ≡ slice_index_or old c 0 + one_for joins c
+abbrev pub FlightsMove : List ℕ → List ℕ → Option ℕ → Option ℕ → Type 0
+FlightsMove old new joins leaves = (c : ℕ) → slice_index_or new c 0 + one_for leaves c ≡ slice_index_or old c 0 + one_for joins c
 
 -- the numbers have room for what any event can add to them
 pub record HasCountRoom (t : NodeTally) : Type 0 where
@@ -85,5 +85,5 @@ pub record HasCountRoom (t : NodeTally) : Type 0 where
 pub record Counts (old new : NodeTally) (c : ℕ) (w : What) (leaves : Option ℕ) (split : SplitContext) : Type 0 where
   pub next : new.next ≡ old.next + from_bool (is_alloc w)
   pub closed : new.closed ≡ (old.closed || closes w)
-  pub flying : Moves old.flying new.flying (joins_of c w) leaves
+  pub flying : FlightsMove old.flying new.flying (joins_of c w) leaves
   pub sums : Adds old.sums new.sums w split

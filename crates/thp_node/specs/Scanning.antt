@@ -11,8 +11,8 @@ abbrev pub events_after : Shape → History → ℕ → List ℕ → List Event
 events_after s h c ps = map (try_event s h c) ps ++ map (return_event s h c) (filter (is_pinned s h) ps)
 
 -- a try of page p finds it in use
-abbrev pub is_used : Shape → History → ℕ → Bool
-is_used s h p = not (is_worth_split s h p)
+abbrev pub is_tried_used : Shape → History → ℕ → Bool
+is_tried_used s h p = not (is_worth_split s h p)
 
 -- 1 for a try that found its page in use
 abbrev pub used_count : Tried → ℕ

@@ -1,7 +1,7 @@
 //! The journal of a node, and the numbers that are maintained with it.
 ghost use Rattle.std.specs.Prelude.{◌≡◌, ℕ, ◌+◌, ◌<◌, ◌≤◌, [], ◌∷◌, ◌++◌, ◌^◌, length, OnOk, OnErr, IfErr, IfSome, IsTrue, ◌↔◌, None, Some, not};
 ghost use Rattle.thp_history.specs.Prelude.{max_callers, by, IsShape, IsContext, allocations, is_closed, counters_of, frames_given, frames_held, flight, IsLegal, Fits, loss_what, with_loss};
-ghost use Rattle.thp_node.specs.Journals.{HasFlightRoom, leaves_by, leaves_of, joins_of, HasCountRoom, CanJoin, CanLeave, Moves, Counts};
+ghost use Rattle.thp_node.specs.Journals.{HasFlightRoom, leaves_by, leaves_of, joins_of, HasCountRoom, FlightHasRoom, CanLeave, FlightsMove, Counts};
 
 use crate::recorder::{FullLog, Recorder};
 use std::alloc::Global;
@@ -204,7 +204,7 @@ impl NodeTally {
     #[inline(always)]
     fn count(&mut self, caller: u32, what: &What, split: SplitContext)
         requires room { HasCountRoom self.old }
-        requires joins { IfSome (joins_of caller what.now) (CanJoin self.old.flying) }
+        requires joins { IfSome (joins_of caller what.now) (FlightHasRoom self.old.flying) }
         requires leaves { IfSome (leaves_by caller what.now) (CanLeave self.old.flying) }
         ensures { Counts self.old self.new caller what.now (leaves_by caller what.now) split }
     {
@@ -225,7 +225,7 @@ impl NodeTally {
     fn count_loss(&mut self, outcome: Outcome, released: &SubSet, left: Option<u32>)
         requires room { HasCountRoom self.old }
         requires leaves { IfSome left (CanLeave self.old.flying) }
-        ensures flying { Moves self.old.flying self.new.flying None left }
+        ensures flying { FlightsMove self.old.flying self.new.flying None left }
         ensures sums { self.new.sums ≡ with_loss outcome released.now self.old.sums }
         ensures rest { self.new ≡ record self.old { flying = self.new.flying; sums = self.new.sums } }
     {

@@ -3,7 +3,7 @@ use Rattle.std.proofs.Common.{◌≡◌, ◌≢◌, ◌∙◌, ℕ, zero, suc, �
 use Rattle.std.proofs.lemmas.Bool.{cases_eq}
 use Rattle.std.proofs.lemmas.List.{get_or-set_same, get_or-set_other, get_or-replicate}
 use Rattle.thp_links.specs.declared.link.TheConstants.{NIL}
-use Rattle.thp_links.specs.Prelude.{without}
+use Rattle.thp_links.specs.Prelude.{without_index}
 use Rattle.thp_links.proofs.Members.{Contains-nil, Contains-head, Contains-behind, Contains-cons_cases, Contains-without, Contains-from_without, Distinct-nil}
 use Rattle.thp_page.specs.Prelude.{bucket_at, IsOfBucket, IsChain, IsUnlinked, IsBucket, IsSearchable}
 use Rattle.thp_page.proofs.Chains.{chain_after, chain_begins, chain_kept, chain_elsewhere, chain_pushed}
@@ -104,7 +104,7 @@ module _ (numbers : List (Option ℕ)) (nexts news firsts : List ℕ) (s : IsSea
   -- its bucket
   cleared_own : b < length numbers → IsUnlinked nexts news (get_or firsts at 0) now b → IsBucket (set numbers b None) news now at
   cleared_own inside u = record {
-    blocks = without b chained.blocks;
+    blocks = without_index b chained.blocks;
     chain = u.shorter chained.blocks chained.chain (chained.every b of_bucket);
     own = λ c m. (
         let was = Contains-from_without b chained.blocks c m in

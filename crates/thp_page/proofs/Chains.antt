@@ -1,7 +1,7 @@
 -- Chains of blocks: walked along, begun with one more block, and left by one.
 use Rattle.std.proofs.Common.{◌≡◌, ◌≢◌, ◌∙◌, ℕ, zero, suc, ◌<◌, ◌≤◌, ◌^◌, List, [], ◌∷◌, length, get_or, set, cond, not, nat_eq, eq-eqb, ne_eqb, Contains, ap, sym, refl, subst, arith, length-set, inl, inr, get_or-set_same, get_or-set_other}
 use Rattle.thp_links.specs.declared.link.TheConstants.{NIL}
-use Rattle.thp_links.specs.Prelude.{Distinct, without}
+use Rattle.thp_links.specs.Prelude.{Distinct, without_index}
 use Rattle.thp_links.proofs.Members.{Contains-nil, Contains-head, Contains-behind, Contains-cons_cases, Contains-from_without, Distinct-cons, Distinct-head, Distinct-behind, Distinct-without, without_absent, differ, length-distinct}
 use Rattle.thp_page.specs.Prelude.{IsLinked, IsChain, IsInChain, IsUnlinked}
 
@@ -114,23 +114,23 @@ chain_pushed nexts first b bs out inside c =
     }
 
 -- a list without its first block, and one without a later one
-without_first : (b : ℕ) (bs : List ℕ) → (Contains bs b → ⊥) → without b (b ∷ bs) ≡ bs
-without_first b bs out = ap (λ t. cond (not t) (b ∷ without b bs) (without b bs)) (eq-eqb b b refl) ∙ without_absent b bs out
+without_first : (b : ℕ) (bs : List ℕ) → (Contains bs b → ⊥) → without_index b (b ∷ bs) ≡ bs
+without_first b bs out = ap (λ t. cond (not t) (b ∷ without_index b bs) (without_index b bs)) (eq-eqb b b refl) ∙ without_absent b bs out
 
-without_later : (b x : ℕ) (bs : List ℕ) → x ≢ b → without b (x ∷ bs) ≡ x ∷ without b bs
-without_later b x bs other = ap (λ t. cond (not t) (x ∷ without b bs) (without b bs)) (ne_eqb x b other)
+without_later : (b x : ℕ) (bs : List ℕ) → x ≢ b → without_index b (x ∷ bs) ≡ x ∷ without_index b bs
+without_later b x bs other = ap (λ t. cond (not t) (x ∷ without_index b bs) (without_index b bs)) (ne_eqb x b other)
 
 -- a chain without its first block
-linked_after : (old new : List ℕ) (b : ℕ) (bs : List ℕ) → IsLinked old b bs → Distinct bs → b ≢ NIL → ((x : ℕ) → Contains bs x → get_or new x 0 ≡ get_or old x 0) → IsLinked new (get_or old b 0) (without b bs)
+linked_after : (old new : List ℕ) (b : ℕ) (bs : List ℕ) → IsLinked old b bs → Distinct bs → b ≢ NIL → ((x : ℕ) → Contains bs x → get_or new x 0 ≡ get_or old x 0) → IsLinked new (get_or old b 0) (without_index b bs)
 linked_after old new b [] l d real same = absurd (real l)
 linked_after old new b (x ∷ xs) l d real same =
-    let P : ℕ → Type 0 = λ y. IsLinked new (get_or old y 0) (without y (x ∷ xs)) in
+    let P : ℕ → Type 0 = λ y. IsLinked new (get_or old y 0) (without_index y (x ∷ xs)) in
     let Q : List ℕ → Type 0 = λ ys. IsLinked new (get_or old x 0) ys in
     let rest : IsLinked new (get_or old x 0) xs = linked_kept old new (get_or old x 0) xs (λ y m. same y (Contains-behind x xs y m)) l.1 in
     subst P (sym l.0) (subst Q (sym (without_first x xs (Distinct-head x xs d))) rest)
 
 -- a chain in which block a leads on to where the next one, b, led
-linked_past : (nexts : List ℕ) (at a b : ℕ) (bs : List ℕ) → IsLinked nexts at bs → Distinct bs → b ≢ NIL → get_or nexts a 0 ≡ b → a < length nexts → Contains bs a → IsLinked (set nexts a (get_or nexts b 0)) at (without b bs)
+linked_past : (nexts : List ℕ) (at a b : ℕ) (bs : List ℕ) → IsLinked nexts at bs → Distinct bs → b ≢ NIL → get_or nexts a 0 ≡ b → a < length nexts → Contains bs a → IsLinked (set nexts a (get_or nexts b 0)) at (without_index b bs)
 linked_past nexts at a b [] l d real leads inside m = absurd (Contains-nil a m)
 linked_past nexts at a b (x ∷ xs) l d real leads inside m =
     let next : ℕ = get_or nexts b 0 in
@@ -138,7 +138,7 @@ linked_past nexts at a b (x ∷ xs) l d real leads inside m =
     let behind : Contains xs b = subst R leads (next_after nexts at a x xs l (λ e. real (sym leads ∙ e)) m) in
     let other : x ≢ b = λ e. Distinct-head x xs d (subst R (sym e) behind) in
     let P : List ℕ → Type 0 = λ ys. IsLinked (set nexts a next) at ys in
-    let Q : ℕ → Type 0 = λ y. IsLinked (set nexts a next) y (without b xs) in
+    let Q : ℕ → Type 0 = λ y. IsLinked (set nexts a next) y (without_index b xs) in
     let rest : Q (get_or (set nexts a next) x 0) = elim (Contains-cons_cases x xs a m) [
       | inl e ↦ (
           let L : ℕ → Type 0 = λ y. IsLinked nexts y xs in
@@ -154,7 +154,7 @@ linked_past nexts at a b (x ∷ xs) l d real leads inside m =
     subst P (sym (without_later b x xs other)) (l.0, rest)
 
 -- what is left of a chain lies inside
-left_inside : (nexts : List ℕ) (at b : ℕ) (bs : List ℕ) → IsChain nexts at bs → (x : ℕ) → Contains (without b bs) x → x < length nexts
+left_inside : (nexts : List ℕ) (at b : ℕ) (bs : List ℕ) → IsChain nexts at bs → (x : ℕ) → Contains (without_index b bs) x → x < length nexts
 left_inside nexts at b bs c x m = c.inside x (Contains-from_without b bs x m).0
 
 -- the first block leaves its chain

@@ -12,7 +12,7 @@ use Rattle.thp_page.proofs.Carries.{no_planes, one_more, counts_below}
 
 -- where there is none, none is chosen
 pub none_chosen : (chosen : ℕ → Bool) (r : Bool) (i : ℕ) → r ≡ not (some_below 512 chosen) → r ≡ true → i < 512 → chosen i ≡ false
-none_chosen chosen r i tells holds below = some_none 512 chosen (flipped (some_below 512 chosen) (sym tells ∙ holds)) i below where
+none_chosen chosen r i reports holds below = some_none 512 chosen (flipped (some_below 512 chosen) (sym reports ∙ holds)) i below where
   flipped : (b : Bool) → not b ≡ true → b ≡ false
   flipped true e = sym e
   flipped false e = refl
@@ -61,13 +61,13 @@ alike_from planes n i (suc d) k holds = alike_from planes n i d k (alike_less pl
 
 -- a number that has no more bits than there are planes is compared when these are
 pub all_compared : (planes : List (List Bool)) (n m i : ℕ) (of left : Bool) → n < 2 ^ m → left ≡ (of && alike planes n i m) → left ≡ (of && nat_eq (count_in planes m i) n)
-all_compared planes n m i of left fits tells = tells ∙ ap (λ r. of && nat_eq (count_in planes m i) r) (mod-eq_of_lt fits)
+all_compared planes n m i of left fits reports = reports ∙ ap (λ r. of && nat_eq (count_in planes m i) r) (mod-eq_of_lt fits)
 
 -- where none is left early, none is in the end
 pub none_left : (planes : List (List Bool)) (n k m i : ℕ) (of left : Bool) → k ≤ m → n < 2 ^ m → left ≡ (of && alike planes n i k) → left ≡ false →
     left ≡ (of && nat_eq (count_in planes m i) n)
-none_left planes n k m i of left less fits tells none =
-    all_compared planes n m i of left fits (go of (alike planes n i k) (alike planes n i m) (λ holds. alike_from planes n i (m - k) k (subst (λ (j : ℕ). alike planes n i j ≡ true) (apart k m less) holds)) tells none) where
+none_left planes n k m i of left less fits reports none =
+    all_compared planes n m i of left fits (go of (alike planes n i k) (alike planes n i m) (λ holds. alike_from planes n i (m - k) k (subst (λ (j : ℕ). alike planes n i j ≡ true) (apart k m less) holds)) reports none) where
       apart : (k m : ℕ) → k ≤ m → m ≡ m - k + k
       apart k m h = omega arith
 

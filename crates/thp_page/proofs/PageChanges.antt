@@ -3,7 +3,7 @@ use Rattle.std.proofs.Common.{◌≡◌, ℕ, zero, suc, ◌^◌, ◌<◌, ◌�
 use Rattle.thp_history.specs.Prelude.{has, set_of, get_or-set_of, most, PageState, size, has_use, partly_after, zero_set, page_refusal, IsPage, IsFresh, KeepsCounts, WholeMapped, WholeUnmapped, RangeMapped, RangeUnmapped, PmdSplit, PageSplit}
 use Rattle.thp_history.specs.Refusals as call
 use Rattle.thp_history.specs.Pages.{Pinned}
-use Rattle.thp_page.specs.Prelude.{fresh_page, Inside, state_of, IsKept, NothingAfter}
+use Rattle.thp_page.specs.Prelude.{fresh_page, Inside, state_of, FieldsAgree, NothingAfter}
 use Rattle.thp_page.proofs.SubSets.{set_of-ext}
 use Rattle.thp_page.proofs.PageSizes.{same_size, size_most}
 use Rattle.thp_page.proofs.Trailing.{behind-same}
@@ -83,7 +83,7 @@ pub IsPage-partly : (t : PageState) (b : Bool) → IsPage t → IsPage (record t
 unfolding size
 IsPage-partly t b page = grind arith
 
-pub kept_partly : (p : Inside) (b : Bool) → IsKept p → IsKept (record p { partly = b })
+pub kept_partly : (p : Inside) (b : Bool) → FieldsAgree p → FieldsAgree (record p { partly = b })
 unfolding size
 kept_partly p b k = grind (arith, IsPage-partly)
 
@@ -103,7 +103,7 @@ zero_inside-fresh_page order = grind (arith, zero_inside-test, nat_lt)
 pub fresh_made : (order : ℕ) (own : List ℕ) (all : List Bool) → own ≡ replicate 512 0 → all ≡ set_of (λ i. nat_lt i (2 ^ order)) → record (fresh_page order) { own = own; zero = all } ≡ fresh_page order
 fresh_made order own all e f = ap₂ (λ (o : List ℕ) (z : List Bool). record (fresh_page order) { own = o; zero = z }) e f
 
-pub fresh_kept : (order : ℕ) (p : Inside) → 2 ≤ order → order ≤ 9 → state_of p ≡ fresh_page order → IsKept p
+pub fresh_kept : (order : ℕ) (p : Inside) → 2 ≤ order → order ≤ 9 → state_of p ≡ fresh_page order → FieldsAgree p
 fresh_kept order p least most same = record {
   page = subst (λ (t : PageState). IsPage t) (sym same) (IsPage-fresh_page order least most);
   behind = subst (λ (t : PageState). NothingAfter t) (sym same) (λ i above short. (fresh_page_is_fresh order most).own i);
@@ -111,7 +111,7 @@ fresh_kept order p least most same = record {
 }
 
 -- the own counts and the zero-filled subpages stay
-pub kept_else : (p q : Inside) → IsKept p → IsPage (state_of q) → q.order ≡ p.order → q.own ≡ p.own → q.zero ≡ p.zero → IsKept q
+pub kept_else : (p q : Inside) → FieldsAgree p → IsPage (state_of q) → q.order ≡ p.order → q.own ≡ p.own → q.zero ≡ p.zero → FieldsAgree q
 kept_else p q k page order own filled = record {
   page = page;
   behind = behind-same (state_of p) (state_of q) order (λ i. ap (λ (l : List ℕ). get_or l i 0) own) k.behind;
@@ -119,7 +119,7 @@ kept_else p q k page order own filled = record {
 }
 
 -- other subpages are zero-filled
-pub kept_zeros : (p : Inside) (new : List Bool) → IsKept p → KeepsCounts (state_of p) (record (state_of p) { zero = new }) → new ≡ zero_set (record (state_of p) { zero = new }) → IsKept (record p { zero = new })
+pub kept_zeros : (p : Inside) (new : List Bool) → FieldsAgree p → KeepsCounts (state_of p) (record (state_of p) { zero = new }) → new ≡ zero_set (record (state_of p) { zero = new }) → FieldsAgree (record p { zero = new })
 kept_zeros p new k counts inside = record {
   page = IsPage-counts (state_of p) (record (state_of p) { zero = new }) k.page counts;
   behind = behind-same (state_of p) (record (state_of p) { zero = new }) refl (λ i. refl) k.behind;

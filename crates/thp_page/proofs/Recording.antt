@@ -73,28 +73,28 @@ pub loss_is_recorded : LossIsRecorded
 loss_is_recorded shape h c p loss.UnmapWhole old new at allowed r =
     let o : Outcome = page_outcome old new (is_closed h) (stands shape h p) in
     let e : Event = by c (UnmapWhole o p (page_released old new o)) in
-    let told : Tallies shape (h ++ e ∷ []) p new = tallies_unmap_whole shape h c p o (page_released old new o) old new at.tallies r in
+    let reported : Tallies shape (h ++ e ∷ []) p new = tallies_unmap_whole shape h c p o (page_released old new o) old new at.tallies r in
     record {
-      fits = (refusal_unmap_whole shape h p old at.tallies at.live ∙ allowed, gives_is shape h (h ++ e ∷ []) p o old new at.tallies told at.live (lives_by h e p o at.live refl refl) refl);
-      tallies = told;
+      fits = (refusal_unmap_whole shape h p old at.tallies at.live ∙ allowed, gives_is shape h (h ++ e ∷ []) p o old new at.tallies reported at.live (lives_by h e p o at.live refl refl) refl);
+      tallies = reported;
       live = lives_on h e p at.live refl;
     }
 loss_is_recorded shape h c p (loss.UnmapSub first count) old new at allowed r =
     let o : Outcome = page_outcome old new (is_closed h) (stands shape h p) in
     let e : Event = by c (UnmapSub o p first count (page_released old new o)) in
-    let told : Tallies shape (h ++ e ∷ []) p new = tallies_unmap_sub shape h c p first count o (page_released old new o) old new at.tallies r in
+    let reported : Tallies shape (h ++ e ∷ []) p new = tallies_unmap_sub shape h c p first count o (page_released old new o) old new at.tallies r in
     record {
-      fits = (refusal_unmap_sub shape h p first count old at.tallies at.live ∙ allowed, gives_is shape h (h ++ e ∷ []) p o old new at.tallies told at.live (lives_by h e p o at.live refl refl) refl);
-      tallies = told;
+      fits = (refusal_unmap_sub shape h p first count old at.tallies at.live ∙ allowed, gives_is shape h (h ++ e ∷ []) p o old new at.tallies reported at.live (lives_by h e p o at.live refl refl) refl);
+      tallies = reported;
       live = lives_on h e p at.live refl;
     }
 loss_is_recorded shape h c p loss.Unpin old new at allowed r =
     let o : Outcome = page_outcome old new (is_closed h) (stands shape h p) in
     let e : Event = by c (Unpin o p (page_released old new o)) in
-    let told : Tallies shape (h ++ e ∷ []) p new = tallies_unpin shape h c p o (page_released old new o) old new at.tallies r in
+    let reported : Tallies shape (h ++ e ∷ []) p new = tallies_unpin shape h c p o (page_released old new o) old new at.tallies r in
     record {
-      fits = (refusal_unpin shape h p old at.tallies at.live ∙ allowed, gives_is shape h (h ++ e ∷ []) p o old new at.tallies told at.live (lives_by h e p o at.live refl refl) refl);
-      tallies = told;
+      fits = (refusal_unpin shape h p old at.tallies at.live ∙ allowed, gives_is shape h (h ++ e ∷ []) p o old new at.tallies reported at.live (lives_by h e p o at.live refl refl) refl);
+      tallies = reported;
       live = lives_on h e p at.live refl;
     }
 
@@ -104,15 +104,15 @@ candidates_agree shape h p t at = worth_is shape h p t at.tallies
 pub split_is_recorded : SplitIsRecorded
 split_is_recorded shape h c p old new at flying worth whole unpinned r =
     let e : Event = by c (Split p (gives_frames old new)) in
-    let told : Tallies shape (h ++ e ∷ []) p new = tallies_split shape h c p (gives_frames old new) old new at.tallies r in
+    let reported : Tallies shape (h ++ e ∷ []) p new = tallies_split shape h c p (gives_frames old new) old new at.tallies r in
     let lives : is_live (h ++ e ∷ []) p ≡ true = lives_on h e p at.live refl in
     record {
       fits = record {
         in_flight = flying;
         worth = worth_is shape h p old at.tallies ∙ worth;
         unpinned = pins_is shape h p old at.tallies ∙ unpinned;
-        set_is = sym (released_alive shape h (h ++ e ∷ []) p old new at.tallies told at.live lives);
+        set_is = sym (released_alive shape h (h ++ e ∷ []) p old new at.tallies reported at.live lives);
       };
-      tallies = told;
+      tallies = reported;
       live = lives;
     }

@@ -25,18 +25,18 @@ one_of x y f g = grind arith
 -- those that a set has too
 pub word_within : (set : List Bool) (at bits word i : ℕ) → ((j : ℕ) → j / 64 ≡ at → nat_eq (bit_at word (j % 64)) 1 ≡ has set j) →
     in_word at (bit_and bits word) i ≡ (in_word at bits i && has set i)
-word_within set at bits word i tells = grind (arith, eqb_tells, nat_eq, bit_and, bit_at_and, both, bit_at-lt)
+word_within set at bits word i reports = grind (arith, eqb_tells, nat_eq, bit_and, bit_at_and, both, bit_at-lt)
 
 -- those that it hasn't
 pub word_outside : (set : List Bool) (at bits word i : ℕ) → word < 2 ^ 64 → ((j : ℕ) → j / 64 ≡ at → nat_eq (bit_at word (j % 64)) 1 ≡ has set j) →
     in_word at (bit_and bits (18446744073709551615 - word)) i ≡ (in_word at bits i && not (has set i))
-word_outside set at bits word i fits tells =
+word_outside set at bits word i fits reports =
     elim (eqb_tells (i / 64) at) [
       | inl y ↦
           ap (λ b. b && nat_eq (bit_at (bit_and bits (18446744073709551615 - word)) (i % 64)) 1) y.0
           ∙ ap (λ n. nat_eq n 1) (bit_at_and bits (18446744073709551615 - word) (i % 64) ∙ ap (λ m. min (bit_at bits (i % 64)) m) (bit_at_not w64 word (i % 64) fits (omega arith)))
           ∙ first_alone _ _ (bit_at-lt bits (i % 64)) (bit_at-lt word (i % 64))
-          ∙ ap (λ b. nat_eq (bit_at bits (i % 64)) 1 && not b) (tells i y.1)
+          ∙ ap (λ b. nat_eq (bit_at bits (i % 64)) 1 && not b) (reports i y.1)
           ∙ sym (ap (λ b. (b && nat_eq (bit_at bits (i % 64)) 1) && not (has set i)) y.0)
       | inr y ↦
           ap (λ b. b && nat_eq (bit_at (bit_and bits (18446744073709551615 - word)) (i % 64)) 1) y.0
@@ -46,7 +46,7 @@ word_outside set at bits word i fits tells =
 -- a set with that word written
 pub word_turned : (old new : List Bool) (at bits word : ℕ) → ((j : ℕ) → j / 64 ≡ at → nat_eq (bit_at word (j % 64)) 1 ≡ has old j) →
     new ≡ set_of (λ j. if nat_eq (j / 64) at then nat_eq (bit_at (bit_xor word bits) (j % 64)) 1 else has old j) → new ≡ set_of (λ i. one_alone (has old i) (in_word at bits i))
-word_turned old new at bits word tells written = grind (arith, set_of-ext, eqb_tells, nat_eq, bit_xor, bit_at_xor, one_of, bit_at-lt)
+word_turned old new at bits word reports written = grind (arith, set_of-ext, eqb_tells, nat_eq, bit_xor, bit_at_xor, one_of, bit_at-lt)
 
 -- the set of them
 pub word_set : (empty new : List Bool) (at bits i : ℕ) → i < 512 → empty ≡ set_of (λ j. false) →
@@ -76,9 +76,9 @@ word_none at bits inside fits =
       some n f = omega arith
 
       found : (trailing_zeros w64 bits < 64) × (bit_at bits (trailing_zeros w64 bits) ≡ 1) × ((i : ℕ) → i < trailing_zeros w64 bits → bit_at bits i ≡ 0) → some_below 512 (in_word at bits) ≡ true
-      found tells =
+      found reports =
           let r : ℕ = trailing_zeros w64 bits in
-          some_yes 512 (in_word at bits) (64 * at + r) (omega (arith, tells.0)) (there at r bits tells.0 tells.1) where
+          some_yes 512 (in_word at bits) (64 * at + r) (omega (arith, reports.0)) (there at r bits reports.0 reports.1) where
             there : (at r bits : ℕ) → r < 64 → bit_at bits r ≡ 1 → in_word at bits (64 * at + r) ≡ true
             there at r bits h e =
                 ap (λ q. nat_eq q at && nat_eq (bit_at bits ((64 * at + r) % 64)) 1) (quotient at r h)

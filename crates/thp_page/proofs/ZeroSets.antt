@@ -28,8 +28,8 @@ set_size-zeros t most inside =
 -- a subpage of a range is zero-filled where the range has one in common with them
 pub some_zero : (t : PageState) (first count : ℕ) (range common : List Bool) (empty : Bool) → first + count ≤ size t → size t ≤ 512 →
     range ≡ set_of (covers first count) → common ≡ set_of (λ i. has t.zero i && has range i) → empty ≡ not (some_below 512 (has common)) → not empty ≡ some_in_range t first count (zero_at t)
-some_zero t first count range common empty inside most is_range is_common told =
-    ap not told ∙ twice (some_below 512 (has common))
+some_zero t first count range common empty inside most is_range is_common reported =
+    ap not reported ∙ twice (some_below 512 (has common))
     ∙ some_below-ext 512 (has common) (λ i. covers first count i && zero_at t i)
     (λ i short.
     ap (λ s. has s i) is_common ∙ get_or-set_of (λ j. has t.zero j && has range j) i short

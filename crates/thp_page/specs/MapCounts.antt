@@ -9,6 +9,6 @@ abbrev pub counts_of : Inside → List ℕ
 counts_of c = counts_in c.planes.sets c.planes.used
 
 -- at most sixteen planes are in use, and the additional set has the subpages whose count is not 0
-pub record IsKept (c : Inside) : Type 0 where
+pub record PlanesAgree (c : Inside) : Type 0 where
   pub most : c.planes.used ≤ 16
   pub mapped : c.mapped ≡ set_of (λ i. nat_lt 0 (count_in c.planes.sets c.planes.used i))

@@ -21,7 +21,7 @@ abbrev pub NothingAfter : PageState → Type 0
 NothingAfter t = (i : ℕ) → size t ≤ i → i < max_subpages → own_at t i ≡ 0
 
 -- the fields represent a page, and nothing beyond its last subpage is mapped or zero-filled
-pub record IsKept (p : Inside) : Type 0 where
+pub record FieldsAgree (p : Inside) : Type 0 where
   pub page : IsPage (state_of p)
   pub behind : NothingAfter (state_of p)
   pub zero_inside : p.zero ≡ zero_set (state_of p)

@@ -5,7 +5,7 @@ pub use Rattle.thp_page.specs.Descriptors.{blank_descriptor, links_of, slot_of, 
 pub use Rattle.thp_page.specs.Fresh.{fresh_page}
 pub use Rattle.thp_page.specs.Lending.{with_page}
 pub use Rattle.thp_page.specs.OneWords.{in_word}
-pub use Rattle.thp_page.specs.PageView.{IsKept, NothingAfter, state_of}
+pub use Rattle.thp_page.specs.PageView.{FieldsAgree, NothingAfter, state_of}
 pub use Rattle.thp_page.specs.Planes.{plane}
 unfoldable pub use Rattle.thp_page.specs.Planes.{count_in, counts_in}
 pub use Rattle.thp_page.specs.Ranges.{some_count}

@@ -2,7 +2,7 @@
 -- module.
 use Rattle.std.specs.Prelude.{◌≡◌, ◌<◌, ℕ, ◌^◌, ◌%◌, List, [], ◌∷◌, length, slice_index, slice_index_or, Option, Some, None, Contains}
 use Rattle.thp_links.specs.declared.link.TheConstants.{NIL}
-use Rattle.thp_links.specs.Prelude.{Distinct, without}
+use Rattle.thp_links.specs.Prelude.{Distinct, without_index}
 
 -- the bucket of a number
 abbrev pub bucket_at : ℕ → ℕ
@@ -33,7 +33,7 @@ pub record IsInChain (nexts : List ℕ) (first b : ℕ) : Type 0 where
 -- block b is removed from its chain, which began with `first` and now begins with `now`; other chains are unchanged
 pub record IsUnlinked (old new : List ℕ) (first now b : ℕ) : Type 0 where
   pub size : length new ≡ length old
-  pub shorter : (bs : List ℕ) → IsChain old first bs → Contains bs b → IsChain new now (without b bs)
+  pub shorter : (bs : List ℕ) → IsChain old first bs → Contains bs b → IsChain new now (without_index b bs)
   pub others : (bs : List ℕ) → IsChain old first bs → (c : ℕ) → (Contains bs c → ⊥) → slice_index new c ≡ slice_index old c
 
 -- the chain from `first` on contains exactly the blocks of bucket k

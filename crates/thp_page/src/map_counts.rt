@@ -27,11 +27,11 @@ impl Model for MapCounts {
 
     ghost Value = { List ℕ };
 
-    ghost use Rattle.thp_page.specs.MapCounts.{counts_of, IsKept};
+    ghost use Rattle.thp_page.specs.MapCounts.{counts_of, PlanesAgree};
 
     ghost view = { counts_of };
 
-    ghost invariant = { IsKept };
+    ghost invariant = { PlanesAgree };
 }
 
 impl MapCounts {

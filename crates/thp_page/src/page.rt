@@ -65,11 +65,11 @@ impl Model for Page {
 
     ghost Value = { PageState };
 
-    ghost use Rattle.thp_page.specs.PageView.{state_of, IsKept};
+    ghost use Rattle.thp_page.specs.PageView.{state_of, FieldsAgree};
 
     ghost view = { state_of };
 
-    ghost invariant = { IsKept };
+    ghost invariant = { FieldsAgree };
 }
 
 impl Page {

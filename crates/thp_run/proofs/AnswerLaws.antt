@@ -8,7 +8,7 @@ use Rattle.thp_node.specs.declared.answers.Tried.TheVariants as tried
 use Rattle.thp_worker.specs.declared.reply.Reply.{Reply}
 use Rattle.thp_worker.specs.declared.reply.Reply.TheVariants as reply
 use Rattle.thp_worker.specs.Prelude.{Reaction}
-use Rattle.thp_journal_writer.specs.Prelude.{line_of, ended}
+use Rattle.thp_journal_writer.specs.Prelude.{spaced_line, ended}
 use Rattle.thp_run.specs.Answers.{tried_words, reply_words, reaction_words}
 
 -- there is a first word
@@ -42,16 +42,16 @@ reaction_starts looks (Err why) = tt
 
 -- a text, two words put behind it, each with a space, and the words of a line that go on from there
 pub line-goes_on : (ws : List (List ℕ)) (t a b : List ℕ) → Starts ws →
-    ((t ++ a ++ 32 ∷ []) ++ b ++ 32 ∷ []) ++ ended (line_of ws) ≡ t ++ ended (line_of (a ∷ b ∷ ws))
+    ((t ++ a ++ 32 ∷ []) ++ b ++ 32 ∷ []) ++ ended (spaced_line ws) ≡ t ++ ended (spaced_line (a ∷ b ∷ ws))
 line-goes_on [] t a b s = absurd s
 line-goes_on (w ∷ ws) t a b s = simp append_assoc
 
 -- where the words of an answer were put behind two others, its whole line was put
 pub answer-put : (r : Result (Unit {0}) AllocError) (ws own : List (List ℕ)) (t t1 t2 t3 a b : List ℕ) → Starts ws → own ≡ ws →
-    t1 ≡ t ++ a ++ 32 ∷ [] → t2 ≡ t1 ++ b ++ 32 ∷ [] → OnOk r (t3 ≡ t2 ++ ended (line_of ws)) → OnOk r (t3 ≡ t ++ ended (line_of (a ∷ b ∷ own)))
+    t1 ≡ t ++ a ++ 32 ∷ [] → t2 ≡ t1 ++ b ++ 32 ∷ [] → OnOk r (t3 ≡ t2 ++ ended (spaced_line ws)) → OnOk r (t3 ≡ t ++ ended (spaced_line (a ∷ b ∷ own)))
 answer-put (Err e) ws own t t1 t2 t3 a b s o p q g = tt
 answer-put (Ok u) ws own t t1 t2 t3 a b s o p q g =
-    g ∙ ap (λ x. x ++ ended (line_of ws)) (q ∙ ap (λ x. x ++ b ++ 32 ∷ []) p) ∙ line-goes_on ws t a b s ∙ ap (λ x. t ++ ended (line_of (a ∷ b ∷ x))) (sym o)
+    g ∙ ap (λ x. x ++ ended (spaced_line ws)) (q ∙ ap (λ x. x ++ b ++ 32 ∷ []) p) ∙ line-goes_on ws t a b s ∙ ap (λ x. t ++ ended (spaced_line (a ∷ b ∷ x))) (sym o)
 
 -- what is left of a list from a place at which this stands
 pub drop_at_get : {A : Type 0} (xs : List A) (place : ℕ) (x : A) → Some x ≡ slice_get xs place → drop place xs ≡ x ∷ drop (place + 1) xs

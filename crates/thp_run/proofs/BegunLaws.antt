@@ -56,6 +56,6 @@ read_faulty s script script' q q' setup setup' bytes fault r begins is = grind (
 -- a script with an error, or too little memory for it, ends before its run
 pub ends_at_fault : {A : Type 0} (s : Settings) (known : Option (List ℕ)) (failed : Bool) (script script' : ReadSoFar) (q q' : Passes) (setup setup' : SectionOutcome) (bytes : List ℕ) → IfSome known (IsInputOf bytes) → (r : HasRead script q setup bytes script' q' setup')
     → spelled_with script bytes ≡ script_of s bytes → failed ≡ false → (fault : ReadFault) → ReportsFault (spelled_with script' []) fault → (result : Result A (RunFault ℕ)) → result ≡ Err (run_fault fault) → IfErr result (EndsBeforeRun s known failed)
-ends_at_fault s known failed script script' q q' setup setup' bytes read r begins flag (reading.Text line kind) told result is =
-    rw is (flag, record { bytes = bytes; read = read; told = read_faulty s script script' q q' setup setup' bytes (line, kind) r begins told })
-ends_at_fault s known failed script script' q q' setup setup' bytes read r begins flag reading.OutOfMemory told result is = rw is flag
+ends_at_fault s known failed script script' q q' setup setup' bytes read r begins flag (reading.Text line kind) reported result is =
+    rw is (flag, record { bytes = bytes; read = read; reported = read_faulty s script script' q q' setup setup' bytes (line, kind) r begins reported })
+ends_at_fault s known failed script script' q q' setup setup' bytes read r begins flag reading.OutOfMemory reported result is = rw is flag

@@ -8,14 +8,14 @@ use Rattle.thp_journal_reader.proofs.VerdictLaws.{fault_of_journal, verdict_of_i
 use Rattle.thp_cli.specs.declared.fault.RunFault.{RunFault}
 use Rattle.thp_cli.specs.declared.fault.RunFault.TheVariants.{Write}
 use Rattle.thp_cli.specs.Prelude.{WritesFront, run_fault}
-use Rattle.thp_cli.proofs.PassageLaws.{ends_cut, ends_early, ends_written, tells_of}
+use Rattle.thp_cli.proofs.PassageLaws.{ends_cut, ends_early, ends_written, reports_of}
 use Rattle.thp_run.specs.Checks.{CheckEnds}
 
 -- why a run ended at the writer
 abbrev pub at_writer : RunFault ℕ
 at_writer = Write
 
--- a writer that failed is told as that
+-- a writer that failed is reported as that
 pub cut_from : (o : Option (Unit {0})) (fault : RunFault ℕ) → ok_or o Write ≡ Err fault → (o ≡ None) × (Write ≡ fault)
 cut_from x fault e = grind arith
 
@@ -37,4 +37,4 @@ check_ends_written known old new bytes text rf wf illegal x u legal read verdict
 -- the journal was at fault, or memory was refused
 pub check_ends_early : (known old : Option (List ℕ)) (bytes : List ℕ) (reader_failed writer_failed : Bool) (fault : ReadFault) (r : Result Bool (RunFault ℕ)) → IfSome known (IsInputOf bytes) → ReportsFault (journals_of bytes) fault
     → reader_failed ≡ false → writer_failed ≡ false → r ≡ Err (run_fault fault) → CheckEnds known old old reader_failed writer_failed r
-check_ends_early known old bytes rf wf fault r read told e f is = grind (arith, ends_early, verdict_of_input, fault_of_journal, tells_of)
+check_ends_early known old bytes rf wf fault r read reported e f is = grind (arith, ends_early, verdict_of_input, fault_of_journal, reports_of)

@@ -3,7 +3,7 @@ use Rattle.std.proofs.Common.{◌≡◌, ℕ, List, [], ◌∷◌, ◌∙◌, ap
 use Rattle.std.proofs.lemmas.List.Elements.{All-head, All-tail}
 use Rattle.thp_node.specs.Prelude.{NodeState}
 use Rattle.thp_run.specs.Answers.{answers_text, with_stored}
-use Rattle.thp_run.specs.Reports.{report_of, shape_in, told_of}
+use Rattle.thp_run.specs.Reports.{journal_shape, report_of, reported_journal}
 use Rattle.thp_run.specs.NewNodes.{histories_of, shapes_of, AreNodesFor}
 use Rattle.thp_run.specs.Runs.{IsRun}
 use Rattle.thp_run.specs.Sections.{SectionAnswersAre}
@@ -26,31 +26,31 @@ all_kept (s ∷ sections) all =
 
 -- a report doesn't look at answers, or all of them are kept
 kept_report : (r : Report) (nodes : List NodeState) (sections : List SectionLog) → (r ≡ report.Answers → All (SectionAnswersAre Kept) sections) →
-    report_of r (map told_of nodes) (map with_stored sections) ≡ report_of r (map told_of nodes) sections
+    report_of r (map reported_journal nodes) (map with_stored sections) ≡ report_of r (map reported_journal nodes) sections
 kept_report report.Totals nodes sections kept = refl
 kept_report report.Journal nodes sections kept = refl
-kept_report report.Answers nodes sections kept = ap (answers_text (map shape_in (map told_of nodes))) (all_kept sections (kept refl))
+kept_report report.Answers nodes sections kept = ap (answers_text (map journal_shape (map reported_journal nodes))) (all_kept sections (kept refl))
 
 -- the text is the report of each input that spells the script
 abbrev pub IsReportOf : Settings → ScriptSections → List ℕ → Type 0
 IsReportOf s script text = (input : List ℕ) → script_of s input ≡ Ok script → IsReport s input text
 
--- what is told of a run is its report
+-- what is reported of a run is its report
 pub is_report : (s : Settings) (script : ScriptSections) (nodes : List NodeState) (sections : List SectionLog) (text : List ℕ) → AreNodesFor s nodes →
-    IsRun s.nodes (shapes_of nodes) script (histories_of nodes) sections → text ≡ report_of s.report (map told_of nodes) sections → IsReportOf s script text
-is_report s script nodes sections text made run told = λ input spelled. record {
+    IsRun s.nodes (shapes_of nodes) script (histories_of nodes) sections → text ≡ report_of s.report (map reported_journal nodes) sections → IsReportOf s script text
+is_report s script nodes sections text made run reported = λ input spelled. record {
   script = script;
   spelled = spelled;
   nodes = nodes;
   nodes_are = made;
   sections = sections;
   is_run = run;
-  written = told;
+  written = reported;
 }
 
--- and so is what is told of the answers that it kept
+-- and so is what is reported of the answers that it kept
 pub is_kept_report : (s : Settings) (script : ScriptSections) (nodes : List NodeState) (sections kept : List SectionLog) (text : List ℕ) → AreNodesFor s nodes →
     IsRun s.nodes (shapes_of nodes) script (histories_of nodes) sections → (s.report ≡ report.Answers → All (SectionAnswersAre Kept) sections) → kept ≡ map with_stored sections →
-    text ≡ report_of s.report (map told_of nodes) kept → IsReportOf s script text
-is_kept_report s script nodes sections kept text made run all is told =
-    is_report s script nodes sections text made run (told ∙ ap (report_of s.report (map told_of nodes)) is ∙ kept_report s.report nodes sections all)
+    text ≡ report_of s.report (map reported_journal nodes) kept → IsReportOf s script text
+is_kept_report s script nodes sections kept text made run all is reported =
+    is_report s script nodes sections text made run (reported ∙ ap (report_of s.report (map reported_journal nodes)) is ∙ kept_report s.report nodes sections all)

@@ -6,7 +6,7 @@ use Rattle.thp_history.specs.declared.shape.Shape.{Shape}
 use Rattle.thp_script.specs.declared.script.Command.{Command}
 use Rattle.thp_run.specs.Listed.{left_open, open_at, stays_open, to_put_back, without_first}
 use Rattle.thp_run.proofs.AnswerLaws.{drop_at_get}
-use Rattle.thp_worker.specs.Prelude.{Begins, Carries, Ends, Fronts, HasNoBatch, IsCommandFor, IsMade, IsTurn, Made, Open, OpenOn, Turn, WorksTo, answers_from, batches_after, closing, closing_from, command_of, is_open, marked, progress_of, put_back_on, steps_of, with_batch}
+use Rattle.thp_worker.specs.Prelude.{Begins, Carries, Ends, Fronts, HasNoBatch, IsMade, IsTurn, IsWorkFor, Made, Open, OpenOn, Turn, WorksTo, answers_from, batches_after, closing, closing_from, is_open, marked, progress_of, put_back_on, steps_of, turn_command, with_batch}
 use Rattle.thp_worker.specs.declared.reply.Answer.{Answer}
 use Rattle.thp_worker.specs.declared.reply.Rest.{Rest}
 use Rattle.thp_worker.proofs.OpenLaws.{carries_after, known_more, known_none, opens_by}
@@ -117,14 +117,14 @@ after_turns opened [] = opened
 after_turns opened (t ∷ ts) = after_turns (marked opened t.command t.answer) ts
 
 -- the answers of turns are read back, whatever commands follow
-by_answers : (k : ℕ) (opened : List Bool) (turns : List Turn) (commands : List Command) → map command_of turns ≡ take (length turns) commands → left_open opened commands (answers_from k turns) ≡ after_turns opened turns
+by_answers : (k : ℕ) (opened : List Bool) (turns : List Turn) (commands : List Command) → map turn_command turns ≡ take (length turns) commands → left_open opened commands (answers_from k turns) ≡ after_turns opened turns
 unfolding after_turns
 by_answers k opened [] [] e = refl
 by_answers k opened [] (command ∷ commands) e = refl
 by_answers k opened (t ∷ ts) [] e = absurd cc
 by_answers k opened (t ∷ ts) (command ∷ commands) e =
     let here : t.command ≡ command = cc in
-    let rest : map command_of ts ≡ take (length ts) commands = cc in
+    let rest : map turn_command ts ≡ take (length ts) commands = cc in
     ap (λ (c : Command). left_open (marked opened c t.answer) commands (answers_from (k + 1) ts)) (sym here) ∙ by_answers (k + 1) (marked opened t.command t.answer) ts commands rest
 
 all_parts : {A : Type 0} (P : A → Type 0) (xs ys : List A) → All P (xs ++ ys) → All P xs × All P ys
@@ -139,28 +139,28 @@ carries_first bs [] ys carries = tt
 carries_first bs (x ∷ xs) ys carries = (carries.0, carries_first (with_batch bs x.node x.after) xs ys carries.1)
 
 module _ (nodes : ℕ) (shape : ℕ → Shape) (history : ℕ → History) (c : ℕ) where
-  turns_known : (turns : List Turn) (opened : List Bool) (bs : ℕ → Option Open) → OpenOn nodes opened bs → All IsTurn turns → All (IsCommandFor nodes) (map command_of turns) → All (IsMade shape history c) (steps_of turns) → Carries bs (steps_of turns)
+  turns_known : (turns : List Turn) (opened : List Bool) (bs : ℕ → Option Open) → OpenOn nodes opened bs → All IsTurn turns → All (IsWorkFor nodes) (map turn_command turns) → All (IsMade shape history c) (steps_of turns) → Carries bs (steps_of turns)
       → OpenOn nodes (after_turns opened turns) (batches_after bs (steps_of turns))
   unfolding after_turns batches_after
   turns_known [] opened bs known each commands made carries = known
   turns_known (t ∷ ts) opened bs known each commands made carries =
       let turn : IsTurn t = All-head IsTurn t ts each in
-      let lt = (All-head (IsCommandFor nodes) t.command (map command_of ts) commands).node_exists in
+      let lt = (All-head (IsWorkFor nodes) t.command (map turn_command ts) commands).node_exists in
       let parts = all_parts (IsMade shape history c) t.steps (steps_of ts) made in
       let opens = opens_by shape history c t.command.node t.command.op t.answer bs t.steps turn.on_node parts.0 (carries_first bs t.steps (steps_of ts) carries) turn.turns_out in
       let more = known_more nodes opened bs t.command t.answer t.steps known lt turn.on_node opens in
-      let later = turns_known ts (marked opened t.command t.answer) (batches_after bs t.steps) more (All-tail IsTurn t ts each) (All-tail (IsCommandFor nodes) t.command (map command_of ts) commands) parts.1 (carries_after bs t.steps (steps_of ts) carries) in
+      let later = turns_known ts (marked opened t.command t.answer) (batches_after bs t.steps) more (All-tail IsTurn t ts each) (All-tail (IsWorkFor nodes) t.command (map turn_command ts) commands) parts.1 (carries_after bs t.steps (steps_of ts) carries) in
       subst (OpenOn nodes (after_turns (marked opened t.command t.answer) ts)) (sym (batches_after-append bs t.steps (steps_of ts))) later
 
 -- the record of the commands that were executed
-module _ (c : ℕ) (old new : Fronts) (commands : List Command) (answers : List Answer) (shut : HasNoBatch c old) (are : All (IsCommandFor old.nodes) commands) where
+module _ (c : ℕ) (old new : Fronts) (commands : List Command) (answers : List Answer) (shut : HasNoBatch c old) (are : All (IsWorkFor old.nodes) commands) where
   none_open : OpenOn old.nodes (replicate old.nodes false) (old.batches c)
   none_open = known_none old.nodes (replicate old.nodes false) (old.batches c) refl shut
 
   begins_open : (opened : List Bool) (rest : Rest) → Begins c old new commands answers opened (progress_of rest) → left_open (replicate old.nodes false) commands answers ≡ opened
   begins_open opened rest b =
       let first = all_parts (IsMade old.shape new.front c) (steps_of b.turns) b.made b.steps.each in
-      let some : All (IsCommandFor old.nodes) (map command_of b.turns) = subst (All (IsCommandFor old.nodes)) (sym b.done) (All-take (IsCommandFor old.nodes) (length b.turns) commands are) in
+      let some : All (IsWorkFor old.nodes) (map turn_command b.turns) = subst (All (IsWorkFor old.nodes)) (sym b.done) (All-take (IsWorkFor old.nodes) (length b.turns) commands are) in
       let known = turns_known old.nodes old.shape new.front c b.turns (replicate old.nodes false) (old.batches c) none_open b.each some first.0 (carries_first (old.batches c) (steps_of b.turns) b.made b.steps.carries) in
       let one = one_record old.nodes _ opened (batches_after (old.batches c) (steps_of b.turns)) known b.known in
       ap (left_open (replicate old.nodes false) commands) b.answered ∙ by_answers 0 (replicate old.nodes false) b.turns commands b.done ∙ one
@@ -168,18 +168,18 @@ module _ (c : ℕ) (old new : Fronts) (commands : List Command) (answers : List 
   ends_open : (opened : List Bool) (back : ℕ) → Ends c old new commands answers opened back → without_first back (left_open (replicate old.nodes false) commands answers) ≡ opened
   ends_open opened back e =
       let first = all_parts (IsMade old.shape new.front c) (steps_of e.turns) (steps_of e.closed) e.steps.each in
-      let some : All (IsCommandFor old.nodes) (map command_of e.turns) = subst (All (IsCommandFor old.nodes)) (sym e.done) are in
+      let some : All (IsWorkFor old.nodes) (map turn_command e.turns) = subst (All (IsWorkFor old.nodes)) (sym e.done) are in
       let known = turns_known old.nodes old.shape new.front c e.turns (replicate old.nodes false) (old.batches c) none_open e.each some first.0 (carries_first (old.batches c) (steps_of e.turns) (steps_of e.closed) e.steps.carries) in
-      let many : length e.turns ≡ length commands = sym (length-map e.turns command_of) ∙ ap length e.done in
-      let all : map command_of e.turns ≡ take (length e.turns) commands = e.done ∙ sym (ap (λ n. take n commands) many ∙ take-length commands) in
+      let many : length e.turns ≡ length commands = sym (length-map e.turns turn_command) ∙ ap length e.done in
+      let all : map turn_command e.turns ≡ take (length e.turns) commands = e.done ∙ sym (ap (λ n. take n commands) many ∙ take-length commands) in
       let had = left_open (replicate old.nodes false) commands answers in
       let is : had ≡ after_turns (replicate old.nodes false) e.turns = ap (left_open (replicate old.nodes false) commands) e.answered ∙ by_answers 0 (replicate old.nodes false) e.turns commands all in
       let had_known : OpenOn old.nodes had (batches_after (old.batches c) (steps_of e.turns)) = subst (λ l. OpenOn old.nodes l (batches_after (old.batches c) (steps_of e.turns))) (sym is) known in
-      let puts : puts_from 0 had ≡ map command_of e.closed ++ puts_from 0 opened =
-      sym (closing_is old.nodes had _ had_known) ∙ e.closes ∙ ap (λ l. map command_of e.closed ++ l) (closing_is old.nodes opened (new.batches c) e.known) in
-      let count : length (map command_of e.closed) ≡ back = length-map e.closed command_of ∙ e.count in
+      let puts : puts_from 0 had ≡ map turn_command e.closed ++ puts_from 0 opened =
+      sym (closing_is old.nodes had _ had_known) ∙ e.closes ∙ ap (λ l. map turn_command e.closed ++ l) (closing_is old.nodes opened (new.batches c) e.known) in
+      let count : length (map turn_command e.closed) ≡ back = length-map e.closed turn_command ∙ e.count in
       let left : puts_from 0 (without_first back had) ≡ puts_from 0 opened =
-      sym (put_first back 0 had) ∙ ap (drop back) puts ∙ ap (λ n. drop n (map command_of e.closed ++ puts_from 0 opened)) (sym count) ∙ drop-append_seam (map command_of e.closed) (puts_from 0 opened) in
+      sym (put_first back 0 had) ∙ ap (drop back) puts ∙ ap (λ n. drop n (map turn_command e.closed ++ puts_from 0 opened)) (sym count) ∙ drop-append_seam (map turn_command e.closed) (puts_from 0 opened) in
       one_opened 0 (without_first back had) opened (length-without_first back had ∙ had_known.count ∙ sym e.known.count) left
 
   -- the open batches of a section that stopped

@@ -11,7 +11,7 @@ use Rattle.thp_cli.specs.declared.fault.RunFault.TheVariants.{Write}
 use Rattle.thp_cli.specs.Prelude.{WritesFront}
 use Rattle.thp_cli.proofs.PassageLaws.{ends_early, keeps_same}
 use Rattle.thp_node.specs.Prelude.{NodeState}
-use Rattle.thp_run.specs.Reports.{report_of, told_of}
+use Rattle.thp_run.specs.Reports.{report_of, reported_journal}
 use Rattle.thp_worker.specs.declared.reply.SectionLog.{SectionLog}
 use Rattle.thp_run.specs.Answers.{with_stored}
 use Rattle.thp_run.specs.Programs.{IsReport, RunEnds}
@@ -26,7 +26,7 @@ pub report_of_input : (s : Settings) (input bytes text : List ℕ) (u : Unit {0}
 report_of_input s input bytes text u read r = record { script = r.script; spelled = sym (same_script s input bytes read) ∙ r.spelled; nodes = r.nodes; nodes_are = r.nodes_are; sections = r.sections; is_run = r.is_run; written = r.written }
 
 pub fault_of_script : (s : Settings) (input bytes : List ℕ) (fault : Fault) → IsInputOf bytes input → script_of s bytes ≡ Err fault → script_of s input ≡ Err fault
-fault_of_script s input bytes fault read told = sym (same_script s input bytes read) ∙ told
+fault_of_script s input bytes fault read reported = sym (same_script s input bytes read) ∙ reported
 
 -- how a run ends on what was read of an input is how it ends on the input
 pub ends_of_input : (s : Settings) (known old new : Option (List ℕ)) (bytes : List ℕ) (reader_failed writer_failed : Bool) (r : Result (Unit {0}) (RunFault ℕ)) → IfSome known (IsInputOf bytes)
@@ -49,13 +49,13 @@ wrote_ends s script text old new failed x is w input spelled = grind arith
 
 -- a script was run, and its report was written, or a front of it
 pub run_wrote : (s : Settings) (known : Option (List ℕ)) (nodes : List NodeState) (sections : List SectionLog) (text : List ℕ) (old new : Option (List ℕ)) (reader_failed writer_failed : Bool) (r : Result (Unit {0}) (RunFault ℕ)) → HasRun s known nodes sections
-    → text ≡ report_of s.report (map told_of nodes) sections → Wrote text old new writer_failed r → reader_failed ≡ false → RunEnds s known old new reader_failed writer_failed r
-run_wrote s known nodes sections text old new rf wf r ran told w e = grind (arith, ends_of_input, wrote_ends, is_report)
+    → text ≡ report_of s.report (map reported_journal nodes) sections → Wrote text old new writer_failed r → reader_failed ≡ false → RunEnds s known old new reader_failed writer_failed r
+run_wrote s known nodes sections text old new rf wf r ran reported w e = grind (arith, ends_of_input, wrote_ends, is_report)
 
 -- the same of the answers that it kept
 pub run_wrote_kept : (s : Settings) (known : Option (List ℕ)) (nodes : List NodeState) (sections : List SectionLog) (text : List ℕ) (old new : Option (List ℕ)) (reader_failed writer_failed : Bool) (r : Result (Unit {0}) (RunFault ℕ)) → HasRun s known nodes sections
-    → text ≡ report_of s.report (map told_of nodes) (map with_stored sections) → Wrote text old new writer_failed r → reader_failed ≡ false → RunEnds s known old new reader_failed writer_failed r
-run_wrote_kept s known nodes sections text old new rf wf r ran told w e = grind (arith, ends_of_input, wrote_ends, is_kept_report)
+    → text ≡ report_of s.report (map reported_journal nodes) (map with_stored sections) → Wrote text old new writer_failed r → reader_failed ≡ false → RunEnds s known old new reader_failed writer_failed r
+run_wrote_kept s known nodes sections text old new rf wf r ran reported w e = grind (arith, ends_of_input, wrote_ends, is_kept_report)
 
 -- no script was run
 pub not_run_ends : (s : Settings) (known old : Option (List ℕ)) (reader_failed writer_failed : Bool) (fault : RunFault ℕ) (r : Result (Unit {0}) (RunFault ℕ)) → EndsBeforeRun s known reader_failed fault → writer_failed ≡ false → r ≡ Err fault → RunEnds s known old old reader_failed writer_failed r

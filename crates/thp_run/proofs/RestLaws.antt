@@ -153,14 +153,14 @@ rest_ordered first f workers started done (w ∷ rest) r none = absurd (omega (a
 -- ---- the whole
 
 module _ (f mid : Fronts) (script : ScriptSections) (new : IsNew (length script.workers) f) (fits : IsFitScript f.nodes script) (begins : Goes 0 f mid) where
-  pub workers_fit : (nodes : ℕ) → nodes ≡ f.nodes → All (halves.IsSection nodes) script.workers
+  pub workers_fit : (nodes : ℕ) → nodes ≡ f.nodes → All (halves.AreCommandsFor nodes) script.workers
   workers_fit nodes is = rw is fits.workers
 
   pub can_run : CanRun mid 1 script.workers
   can_run = grind (arith, workers_fit)
 
   module _ (ran : Fronts) (ws : List SectionOutcome) (r : RangeDone 1 mid ran script.workers ws) where
-    pub ran_fit : All (halves.IsSection ran.nodes) script.workers
+    pub ran_fit : All (halves.AreCommandsFor ran.nodes) script.workers
     ran_fit = workers_fit ran.nodes (r.same.nodes ∙ begins.same.nodes)
 
     pub ran_callers : ran.callers ≡ 1 + length script.workers
@@ -174,7 +174,7 @@ module _ (f mid : Fronts) (script : ScriptSections) (new : IsNew (length script.
       few_done = let same = all_work-length 1 mid end script.workers xs work in omega (arith, same, fits.most)
 
       pub runs_to : (setup : SectionOutcome) (sections : List SectionLog) → Works 0 f mid script.setup setup → IsDoneFor setup → All IsDoneFor xs → sections ≡ numbered 0 (setup ∷ xs) → RunsTo f end script sections
-      runs_to setup sections works setup-done done told = record {
+      runs_to setup sections works setup-done done reported = record {
         between = mid;
         setup = setup;
         workers = xs;
@@ -188,7 +188,7 @@ module _ (f mid : Fronts) (script : ScriptSections) (new : IsNew (length script.
         goes = goes_from_trans 1 mid ran end (goes_from_ran 1 mid ran script.workers ws r) goes;
         workers_work = work;
         workers_done = done;
-        told = told;
+        reported = reported;
       }
 
 -- an element by its index

@@ -14,7 +14,7 @@ use Rattle.thp_script.specs.declared.script.ScriptSections.{ScriptSections}
 use Rattle.thp_worker.specs.declared.reply.Answer.{Answer}
 use Rattle.thp_worker.specs.declared.reply.SectionLog.{SectionLog}
 use Rattle.thp_worker.specs.declared.reply.SectionOutcome.{SectionOutcome}
-use Rattle.thp_worker.specs.Prelude.{Fronts, HoldsCaller, SameHolding, SameNodes, AllWork, KnowsOf, Turn, IsTurn, Steps, Carries, Works, WorksTo, IsDoneFor, command_of, steps_of, own_events, batches_after, closing}
+use Rattle.thp_worker.specs.Prelude.{Fronts, HoldsCaller, SameHolding, SameNodes, AllWork, KnowsOf, Turn, IsTurn, Steps, Carries, Works, WorksTo, IsDoneFor, turn_command, steps_of, own_events, batches_after, closing}
 use Rattle.thp_worker.proofs.StepLaws.{is_made_stays}
 use Rattle.thp_run.specs.Runs.{IsAnswered, IsRun, IsSection, no_batches, sections_of}
 use Rattle.thp_run.specs.Sections.{IsNew, RunsTo, numbered}
@@ -69,7 +69,7 @@ module _ (c : ℕ) (old new : Fronts) (commands : List Command) (w : SectionOutc
         each = All-append IsTurn e.turns e.closed e.each e.each_closed;
         done = e.done;
         answered = e.answered;
-        closes = sym (ap (λ bs. closing old.nodes (batches_after bs (steps_of e.turns))) (sym no_open) ∙ e.closes ∙ ap (λ l. map command_of e.closed ++ l) to.2 ∙ append-nil (map command_of e.closed));
+        closes = sym (ap (λ bs. closing old.nodes (batches_after bs (steps_of e.turns))) (sym no_open) ∙ e.closes ∙ ap (λ l. map turn_command e.closed ++ l) to.2 ∙ append-nil (map turn_command e.closed));
         stand = st.each;
         in_order = st.in_order;
         carries = subst (λ bs. Carries bs (steps_of (e.turns ++ e.closed))) no_open st.carries;
@@ -216,8 +216,8 @@ module _ (f g : Fronts) (script : ScriptSections) (sections : List SectionLog) (
         let then = r.goes.legal n in
         let shape = r.begins.same.shape in
         rw shape at then first;
-    count = ap length r.told ∙ length-numbered 0 (r.setup ∷ r.workers) ∙ ap suc workers_are;
-    each = λ k commands section at-commands at. answered k commands section at-commands (ap (λ l. slice_get l k) (sym r.told) ∙ at);
+    count = ap length r.reported ∙ length-numbered 0 (r.setup ∷ r.workers) ∙ ap suc workers_are;
+    each = λ k commands section at-commands at. answered k commands section at-commands (ap (λ l. slice_get l k) (sym r.reported) ∙ at);
     setup_first = λ n. ((r.goes.grown n).0, (r.goes.grown n).1 ∙ ap (λ h. h ++ (r.goes.grown n).0) (sym (setup_part n)));
     nobody_else = λ n k d lt. let most = below n k d lt in omega (arith, most);
   }

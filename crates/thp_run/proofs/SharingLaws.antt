@@ -14,13 +14,13 @@ use Rattle.thp_script.specs.declared.settings.Settings.{Settings}
 use Rattle.thp_script.specs.Prelude.{FitsBatch, max_nodes, max_workers, IsScriptFor}
 use Rattle.thp_script.specs.Commands as text
 use Rattle.thp_worker.specs.declared.reply.SectionLog.{SectionLog}
-use Rattle.thp_worker.specs.Prelude.{IsFit, Fronts, Held, Agree, Passes, batch_in, cell_in, front_in, fronts_in, fronts_of, shape_in, IsCommandFor}
+use Rattle.thp_worker.specs.Prelude.{IsFit, Fronts, Held, Agree, Passes, batch_in, cell_in, front_in, fronts_in, fronts_of, shape_in, IsWorkFor}
 use Rattle.thp_run.specs.NewNodes.{AreNodesFor, histories_of, journal_in, shapes_of}
 use Rattle.thp_run.specs.NewNodes as new
 use Rattle.thp_run.specs.InParts.{AreNew}
 use Rattle.thp_run.specs.Runs.{IsRun}
 use Rattle.thp_run.specs.Sections.{IsFitScript, IsNew, RunsTo}
-use Rattle.thp_run.specs.Sharing.{AreFew, IsFresh, IsNodeOf, IsUnused, IsWhole, Pairs, RunsOn, cell_of, front_at, pass_of, shape_at}
+use Rattle.thp_run.specs.Sharing.{AreFew, IsFreshPass, IsNodeOf, IsUnused, IsWhole, Pairs, RunsOn, cell_of, front_at, pass_of, shape_at}
 use Rattle.thp_run.proofs.NodeLaws.{pairs_at, pairs_length, pairs_map, pairs_same}
 use Rattle.thp_run.proofs.RunLaws.{run_of}
 
@@ -28,21 +28,21 @@ use Rattle.thp_run.proofs.RunLaws.{run_of}
 all_at : {A : Type 0} (P : A → Type 0) (xs : List A) (n : ℕ) (x : A) → All P xs → slice_get xs n ≡ Some x → P x
 all_at P xs n x all at = subst P (get_or_from_slice_get xs n x x at) (all n x (slice_get_within xs n x at))
 
-pub fresh_some : (callers : ℕ) (ps : List PassState) → All (IsFresh callers) ps → All (λ (p : PassState). p.first ≤ p.end) ps
+pub fresh_some : (callers : ℕ) (ps : List PassState) → All (IsFreshPass callers) ps → All (λ (p : PassState). p.first ≤ p.end) ps
 fresh_some callers ps fresh = λ k d lt. let one = fresh k d lt in let first = one.whole.first_is in omega (arith, first)
 
-fresh_fronts : (callers : ℕ) (ps : List PassState) → All (IsFresh callers) ps → (n : ℕ) → front_at (slice_get ps n) ≡ []
+fresh_fronts : (callers : ℕ) (ps : List PassState) → All (IsFreshPass callers) ps → (n : ℕ) → front_at (slice_get ps n) ≡ []
 fresh_fronts callers [] fresh n = refl
-fresh_fronts callers (p ∷ ps) fresh zero = (All-head (IsFresh callers) p ps fresh).front
-fresh_fronts callers (p ∷ ps) fresh (suc n) = fresh_fronts callers ps (All-tail (IsFresh callers) p ps fresh) n
+fresh_fronts callers (p ∷ ps) fresh zero = (All-head (IsFreshPass callers) p ps fresh).front
+fresh_fronts callers (p ∷ ps) fresh (suc n) = fresh_fronts callers ps (All-tail (IsFreshPass callers) p ps fresh) n
 
-module _ (callers : ℕ) (ps : List PassState) (held : List Held) (pairs : Pairs IsUnused ps held) (fresh : All (IsFresh callers) ps) where
+module _ (callers : ℕ) (ps : List PassState) (held : List Held) (pairs : Pairs IsUnused ps held) (fresh : All (IsFreshPass callers) ps) where
   pub agree_new : length ps ≤ max_nodes → Agree callers 0 callers held
   agree_new few = record {
     few = let same = pairs_length IsUnused ps held pairs in omega (arith, same, few);
     each = λ n h at.
         let x = pairs_at IsUnused ps held n h pairs at in
-        let one = all_at (IsFresh callers) ps n x.0 fresh x.1 in
+        let one = all_at (IsFreshPass callers) ps n x.0 fresh x.1 in
         record {
           callers_are = ap (λ (p : PassState). p.callers) x.2.pass ∙ one.whole.callers_are;
           first_is = ap (λ (p : PassState). p.first) x.2.pass ∙ one.whole.first_is;
@@ -81,7 +81,7 @@ whole_after callers [] each = All-nil (IsWhole callers)
 whole_after callers (h ∷ held) each = All-cons (IsWhole callers) h.pass (map pass_of held) (each 0 h refl) (whole_after callers held (λ n h at. each (suc n) h at))
 
 -- the passes of a run, before and after it
-pub runs_on : (callers : ℕ) (ps : List PassState) (held : List Held) (q : Passes) (script : ScriptSections) (sections : List SectionLog) → Pairs IsUnused ps held → All (IsFresh callers) ps → callers ≡ 1 + length script.workers
+pub runs_on : (callers : ℕ) (ps : List PassState) (held : List Held) (q : Passes) (script : ScriptSections) (sections : List SectionLog) → Pairs IsUnused ps held → All (IsFreshPass callers) ps → callers ≡ 1 + length script.workers
     → Agree q.callers q.first q.end q.held → RunsTo (fronts_of callers 0 callers held) (fronts_in q) script sections → RunsOn ps (map pass_of q.held) script sections
 runs_on callers ps held q script sections pairs fresh count agree r =
     let same = r.goes.same in
@@ -112,7 +112,7 @@ runs_on callers ps held q script sections pairs fresh count agree r =
 fit_op : (o : Op) → FitsBatch o → IsFit o
 fit_op x fits = grind arith
 
-pub commands_fit : (nodes : ℕ) (commands : List Command) → All (text.IsCommandFor nodes) commands → All (IsCommandFor nodes) commands
+pub commands_fit : (nodes : ℕ) (commands : List Command) → All (text.IsCommandFor nodes) commands → All (IsWorkFor nodes) commands
 commands_fit nodes commands fit = λ k d lt. let one = fit k d lt in record { node_exists = one.node_exists; fits = fit_op (get_or commands k d).op one.fits_batch }
 
 pub script_fits : (s : Settings) (script : ScriptSections) (nodes : ℕ) → IsScriptFor s script → AreFew script → nodes ≡ s.nodes → 1 ≤ s.workers → s.workers ≤ max_workers → IsFitScript nodes script
@@ -137,7 +137,7 @@ module _ (s : Settings) (script : ScriptSections) (cells : List TableId) (old ne
 
   shapes_same : (n : ℕ) → run.before.shape n ≡ shapes_of nodes n
   shapes_same n =
-      sym (ap (λ shape. shape n) (run.runs.goes.same.shape ∙ run.runs.begins.same.shape)) ∙ run.shapes n ∙ pairs_same IsNodeOf shape_at new.shape_in refl (λ p node r. sym r.shape) new-passes nodes ends n
+      sym (ap (λ shape. shape n) (run.runs.goes.same.shape ∙ run.runs.begins.same.shape)) ∙ run.shapes n ∙ pairs_same IsNodeOf shape_at new.state_shape refl (λ p node r. sym r.shape) new-passes nodes ends n
 
   pub nodes_asked : AreNodesFor s nodes
   nodes_asked = record {
@@ -146,7 +146,7 @@ module _ (s : Settings) (script : ScriptSections) (cells : List TableId) (old ne
         let within = slice_get_within nodes n node at in
         let later = pairs_at IsNodeOf new-passes nodes n node ends at in
         let there = slice_get-get_or old n later.0 (omega (arith, within, count, began.count)) in
-        let here : shapes_of nodes n ≡ node.shape = ap new.shape_in at in
+        let here : shapes_of nodes n ≡ node.shape = ap new.state_shape at in
         sym here ∙ sym (shapes_same n) ∙ run.shapes_before n ∙ ap shape_at there ∙ began.shapes n (get_or old n later.0) there;
   }
 

@@ -9,8 +9,8 @@ use Rattle.thp_history.specs.Prelude.{with_block, event_with, without_blocks, Sa
 use Rattle.thp_history.proofs.Alike.{Alike, Blind, alike, count_alike, held_alike}
 use Rattle.thp_history.proofs.SumsBelow.{sum_below-ext}
 use Rattle.thp_journal_writer.specs.Prelude.{Journal, totals_in, totals_of, totals_text}
-use Rattle.thp_run.specs.Laws.{bare}
-use Rattle.thp_journal_writer.specs.Totals.{lines_from}
+use Rattle.thp_run.specs.Laws.{bare_journal}
+use Rattle.thp_journal_writer.specs.Totals.{totals_lines_from}
 use Rattle.thp_journal_writer.specs.declared.totals.Totals.{Totals}
 
 -- taking the blocks out twice is as taking them out once
@@ -148,10 +148,10 @@ node_bare s h =
     (ap (λ (n : ℕ). cond {A = Option ℕ} (shrinks_underused s) (Some n) None) (underused_bare s h))
 
 -- nodes without their blocks have the same totals
-totals_bare : (nodes : List Journal) → map totals_in (map bare nodes) ≡ map totals_in nodes
+totals_bare : (nodes : List Journal) → map totals_in (map bare_journal nodes) ≡ map totals_in nodes
 totals_bare [] = refl
 totals_bare (node ∷ nodes) = ap₂ (λ t ts. t ∷ ts) (node_bare node.0 node.1) (totals_bare nodes)
 
 -- so nodes that are equal but for their blocks have
-pub totals_blind : (nodes others : List Journal) → map bare nodes ≡ map bare others → totals_text nodes ≡ totals_text others
-totals_blind nodes others e = ap (lines_from 0) (sym (totals_bare nodes) ∙ ap (λ ns. map totals_in ns) e ∙ totals_bare others)
+pub totals_blind : (nodes others : List Journal) → map bare_journal nodes ≡ map bare_journal others → totals_text nodes ≡ totals_text others
+totals_blind nodes others e = ap (totals_lines_from 0) (sym (totals_bare nodes) ∙ ap (λ ns. map totals_in ns) e ∙ totals_bare others)

@@ -1,6 +1,6 @@
 -- The answers to the commands of a run as text (this project's report format).
 use Rattle.std.specs.Prelude.{ℕ, ◌+◌, Bool, true, false, List, [], ◌∷◌, ◌++◌, Option, Some, None, Ok, Err, codes, slice_get, flat_map, decimal}
-use Rattle.thp_journal_writer.specs.Prelude.{line_of, outcome_word, page_words, ended, set_text}
+use Rattle.thp_journal_writer.specs.Prelude.{spaced_line, outcome_word, page_words, ended, set_text}
 use Rattle.thp_history.specs.declared.refusal.Refusal.{Refusal}
 use Rattle.thp_history.specs.declared.refusal.Refusal.TheVariants.{NoPage, BadRange, IsSplit, NotMapped, Gone, NotPinned, TooMany, Closed, NoBlock, HasBatch, OutOfMemory}
 use Rattle.thp_history.specs.declared.shape.Shape.{Shape}
@@ -75,7 +75,7 @@ looks shapes n = looks_on (slice_get shapes n)
 
 -- an answer: the section's number, the command's index in the section, counted from 1, and the answer to the command
 unfoldable pub answer_line : List Shape → ℕ → Answer → List ℕ
-answer_line shapes section a = ended (line_of (decimal section ∷ decimal (a.command + 1) ∷ reaction_words (looks shapes a.node) a.reply))
+answer_line shapes section a = ended (spaced_line (decimal section ∷ decimal (a.command + 1) ∷ reaction_words (looks shapes a.node) a.reply))
 
 -- the answers of a section: setup is section 0, and worker k's section is k
 unfoldable pub section_text : List Shape → SectionLog → List ℕ

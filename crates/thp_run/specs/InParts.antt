@@ -6,14 +6,14 @@ use Rattle.thp_script.specs.declared.script.Command.{Command}
 use Rattle.thp_script.specs.declared.settings.Settings.{Settings}
 use Rattle.thp_worker.specs.declared.reply.SectionOutcome.{SectionOutcome}
 use Rattle.thp_worker.specs.Prelude.{Fronts, Goes, Held, DidFirst, fronts_in}
-use Rattle.thp_run.specs.NewNodes.{shape_of}
-use Rattle.thp_run.specs.Sharing.{cell_of, IsFresh, IsUnused, Pairs}
+use Rattle.thp_run.specs.NewNodes.{new_shape}
+use Rattle.thp_run.specs.Sharing.{cell_of, IsFreshPass, IsUnused, Pairs}
 
 -- the cells of new nodes, as the settings describe, and the passes that have all of their callers
 pub record AreNew (s : Settings) (cells : List TableId) (passes : List PassState) : Type 0 where
   pub count : length passes ≡ s.nodes
-  pub shapes : (n : ℕ) (p : PassState) → slice_get passes n ≡ Some p → p.shape ≡ shape_of s n
-  pub fresh : All (IsFresh (s.workers + 1)) passes
+  pub shapes : (n : ℕ) (p : PassState) → slice_get passes n ≡ Some p → p.shape ≡ new_shape s n
+  pub fresh : All (IsFreshPass (s.workers + 1)) passes
   pub in_cells : map cell_of passes ≡ cells
 
 -- the passes' knowledge of the nodes before the first step: no caller has an open batch

@@ -4,9 +4,9 @@ use Rattle.thp_journal_writer.specs.Prelude.{Journal, totals_text}
 use Rattle.thp_history.specs.Prelude.{without_blocks}
 
 -- a node with its history, without the blocks of its pages
-abbrev pub bare : Journal → Journal
-bare node = (node.0, without_blocks node.1)
+abbrev pub bare_journal : Journal → Journal
+bare_journal node = (node.0, without_blocks node.1)
 
 -- nodes that are equal except for the blocks of their pages have the same totals
-abbrev pub TotalsTellNoBlock : Type 0
-TotalsTellNoBlock = (nodes others : List Journal) → map bare nodes ≡ map bare others → totals_text nodes ≡ totals_text others
+abbrev pub TotalsReportNoBlock : Type 0
+TotalsReportNoBlock = (nodes others : List Journal) → map bare_journal nodes ≡ map bare_journal others → totals_text nodes ≡ totals_text others

@@ -50,12 +50,12 @@ open_at nodes commands answers rest =
     without_first (if nat_eq rest.command (length commands) then rest.steps else 0) (left_open (replicate nodes false) commands answers)
 
 -- nothing of the section is left
-abbrev pub IsWhole : WorkedList → Type 0
-IsWhole w = w.rest ≡ None
+abbrev pub NothingIsLeft : WorkedList → Type 0
+NothingIsLeft w = w.rest ≡ None
 
 -- a section as reports see it: all of its answers are stored
-abbrev pub section_of : SectionList → SectionLog
-section_of s = record { worker = s.worker; answers = record { items = s.answers; are = Kept; room = length s.answers } }
+abbrev pub reported_section : SectionList → SectionLog
+reported_section s = record { worker = s.worker; answers = record { items = s.answers; are = Kept; room = length s.answers } }
 
-abbrev pub sections_of : List SectionList → List SectionLog
-sections_of = map section_of
+abbrev pub reported_sections : List SectionList → List SectionLog
+reported_sections = map reported_section

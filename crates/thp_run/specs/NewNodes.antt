@@ -6,8 +6,8 @@ use Rattle.thp_node.specs.Prelude.{NodeState}
 use Rattle.thp_script.specs.declared.settings.Settings.{Settings}
 
 -- each node has the blocks that the settings give, its own order, and its own threshold of underused pages, if it has one
-abbrev pub shape_of : Settings → ℕ → Shape
-shape_of s n = record { blocks = s.blocks; order = slice_index_or s.orders n max_order; underused = slice_index_or s.underused n None }
+abbrev pub new_shape : Settings → ℕ → Shape
+new_shape s n = record { blocks = s.blocks; order = slice_index_or s.orders n max_order; underused = slice_index_or s.underused n None }
 
 -- the journal of a node; empty if there is none
 abbrev pub journal_in : Option NodeState → History
@@ -18,14 +18,14 @@ abbrev pub histories_of : List NodeState → ℕ → History
 histories_of nodes n = journal_in (slice_get nodes n)
 
 -- the shape of a node
-abbrev pub shape_in : Option NodeState → Shape
-shape_in (Some node) = node.shape
-shape_in None = record { blocks = 0; order = 0; underused = None }
+abbrev pub state_shape : Option NodeState → Shape
+state_shape (Some node) = node.shape
+state_shape None = record { blocks = 0; order = 0; underused = None }
 
 abbrev pub shapes_of : List NodeState → ℕ → Shape
-shapes_of nodes n = shape_in (slice_get nodes n)
+shapes_of nodes n = state_shape (slice_get nodes n)
 
 -- the nodes are those that the settings describe
 pub record AreNodesFor (s : Settings) (nodes : List NodeState) : Type 0 where
   pub count : length nodes ≡ s.nodes
-  pub shapes : (n : ℕ) (node : NodeState) → slice_get nodes n ≡ Some node → node.shape ≡ shape_of s n
+  pub shapes : (n : ℕ) (node : NodeState) → slice_get nodes n ≡ Some node → node.shape ≡ new_shape s n

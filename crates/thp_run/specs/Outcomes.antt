@@ -33,20 +33,20 @@ pub record Checks (line : Line) (input : Source) (output : Device) (result : Res
   pub writes : WritesAnswer result output.failed output.called output.calls
 
 -- what was done for a line, by how it ended; options that are not valid are rejected before anything is read
-abbrev pub Does : Line → Source → Device → Result Ending ProgramFault → Type 0
-Does line input output (Ok Written) = Runs line input output (Ok tt) ⊎ Checks line input output (Ok true)
-Does line input output (Ok Illegal) = Checks line input output (Ok false)
-Does line input output (Err (Run fault)) = Runs line input output (Err fault) ⊎ Checks line input output (Err fault)
-Does line input output (Err Orders) = (line.check ≡ false) × HasBadOrders line.orders line.nodes × IsUnread input × IsUntouched output
-Does line input output (Err Underused) = (line.check ≡ false) × HasOnlyBadThresholds line × IsUnread input × IsUntouched output
-Does line input output (Err _) = ⊥
+abbrev pub LineIsDone : Line → Source → Device → Result Ending ProgramFault → Type 0
+LineIsDone line input output (Ok Written) = Runs line input output (Ok tt) ⊎ Checks line input output (Ok true)
+LineIsDone line input output (Ok Illegal) = Checks line input output (Ok false)
+LineIsDone line input output (Err (Run fault)) = Runs line input output (Err fault) ⊎ Checks line input output (Err fault)
+LineIsDone line input output (Err Orders) = (line.check ≡ false) × HasBadOrders line.orders line.nodes × IsUnread input × IsUntouched output
+LineIsDone line input output (Err Underused) = (line.check ≡ false) × HasOnlyBadThresholds line × IsUnread input × IsUntouched output
+LineIsDone line input output (Err _) = ⊥
 
 -- the words request this line, and that was done
 pub record DidLine (words : List (List ℕ)) (input : Source) (output : Device) (result : Result Ending ProgramFault) : Type 0 where
   pub line : Line
   pub held : HoldsWords words line
   pub accepted : FailsAsWords words (Ok line)
-  pub does : Does line input output result
+  pub does : LineIsDone line input output result
 
 -- the command line was rejected, or requested a text
 abbrev pub WasAnswered : List (List ℕ) → Source → Device → Result Ending ProgramFault → Type 0
@@ -62,4 +62,4 @@ Served (Err words.OutOfMemory) input output result = IsShort input output result
 pub record Finishes (given : Result (List (List ℕ)) WordsFault) (input : Source) (output errors : Device) (status : ℕ) : Type 0 where
   pub end : Result Ending ProgramFault
   pub served : Served given input output end
-  pub told : WritesMessage Thpsplit errors status end
+  pub reported : WritesMessage Thpsplit errors status end

@@ -9,18 +9,18 @@ use Rattle.thp_script.specs.declared.settings.Report.TheVariants as report
 use Rattle.thp_worker.specs.declared.reply.SectionLog.{SectionLog}
 
 -- the data about a node in reports: its shape, and its events
-abbrev pub told_of : NodeState → Journal
-told_of n = (n.shape, n.journal)
+abbrev pub reported_journal : NodeState → Journal
+reported_journal n = (n.shape, n.journal)
 
 abbrev pub shape_of : NodeState → Shape
 shape_of n = n.shape
 
 -- the shape of such a node
-abbrev pub shape_in : Journal → Shape
-shape_in node = node.0
+abbrev pub journal_shape : Journal → Shape
+journal_shape node = node.0
 
 -- the output at the end of a run, from its nodes and the answers of its sections
 abbrev pub report_of : Report → List Journal → List SectionLog → List ℕ
 report_of report.Totals nodes sections = totals_text nodes
 report_of report.Journal nodes sections = journal_text nodes
-report_of report.Answers nodes sections = answers_text (map shape_in nodes) sections
+report_of report.Answers nodes sections = answers_text (map journal_shape nodes) sections

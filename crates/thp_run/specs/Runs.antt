@@ -7,7 +7,7 @@ use Rattle.thp_script.specs.declared.script.Command.{Command}
 use Rattle.thp_script.specs.declared.script.ScriptSections.{ScriptSections}
 use Rattle.thp_worker.specs.declared.reply.Answer.{Answer}
 use Rattle.thp_worker.specs.declared.reply.SectionLog.{SectionLog}
-use Rattle.thp_worker.specs.Prelude.{Open, Made, IsMade, ComesBefore, Carries, Turn, IsTurn, command_of, steps_of, own_events, batches_after, closing, answers_from}
+use Rattle.thp_worker.specs.Prelude.{Open, Made, IsMade, ComesBefore, Carries, Turn, IsTurn, turn_command, steps_of, own_events, batches_after, closing, answers_from}
 
 -- no batch is open
 abbrev pub no_batches : ℕ → Option Open
@@ -28,9 +28,9 @@ pub record IsSection (nodes : ℕ) (shape : ℕ → Shape) (history : ℕ → Hi
   pub turns : List Turn
   pub closed : List Turn
   pub each : All IsTurn (turns ++ closed)
-  pub done : map command_of turns ≡ commands
+  pub done : map turn_command turns ≡ commands
   pub answered : answers ≡ answers_from 0 turns
-  pub closes : map command_of closed ≡ closing nodes (batches_after no_batches (steps_of turns))
+  pub closes : map turn_command closed ≡ closing nodes (batches_after no_batches (steps_of turns))
   pub stand : All (IsMade shape history c) (steps_of (turns ++ closed))
   pub in_order : AllPairs ComesBefore (steps_of (turns ++ closed))
   pub carries : Carries no_batches (steps_of (turns ++ closed))

@@ -63,7 +63,7 @@ pub record HasRun (s : Settings) (input : Option (List ℕ)) (nodes : List NodeS
 pub record HasFault (s : Settings) (input : Option (List ℕ)) (fault : Fault) : Type 0 where
   pub bytes : List ℕ
   pub read : IfSome input (IsInputOf bytes)
-  pub told : script_of s bytes ≡ Err fault
+  pub reported : script_of s bytes ≡ Err fault
 
 -- why no script was run: a failed read sets the reader's flag, and nothing else does
 abbrev pub EndsBeforeRun : Settings → Option (List ℕ) → Bool → RunFault ℕ → Type 0

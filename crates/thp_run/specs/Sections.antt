@@ -7,7 +7,7 @@ use Rattle.thp_script.specs.Prelude.{max_workers}
 use Rattle.thp_worker.specs.declared.answer_log.Answers.{Answers}
 use Rattle.thp_worker.specs.declared.reply.SectionLog.{SectionLog}
 use Rattle.thp_worker.specs.declared.reply.SectionOutcome.{SectionOutcome}
-use Rattle.thp_worker.specs.Prelude.{Fronts, Goes, HoldsCaller, SameHolding, AllWork, KnowsOf, RangeDone, IsDoneFor, IsSection, Works}
+use Rattle.thp_worker.specs.Prelude.{Fronts, Goes, HoldsCaller, SameHolding, AllWork, KnowsOf, RangeDone, IsDoneFor, AreCommandsFor, Works}
 
 -- nodes without events, held with caller 0 and a caller for each worker
 pub record IsNew (workers : ℕ) (f : Fronts) : Type 0 where
@@ -19,8 +19,8 @@ pub record IsNew (workers : ℕ) (f : Fronts) : Type 0 where
 
 -- a script for so many nodes, with at least one worker and at most the greatest number
 pub record IsFitScript (nodes : ℕ) (script : ScriptSections) : Type 0 where
-  pub setup : IsSection nodes script.setup
-  pub workers : All (IsSection nodes) script.workers
+  pub setup : AreCommandsFor nodes script.setup
+  pub workers : All (AreCommandsFor nodes) script.workers
   pub some : 0 < length script.workers
   pub most : length script.workers ≤ max_workers
 
@@ -64,7 +64,7 @@ pub record RunsTo (old new : Fronts) (script : ScriptSections) (sections : List 
   pub goes : GoesFrom 1 between new
   pub workers_work : AllWork 1 between new script.workers workers
   pub workers_done : All IsDoneFor workers
-  pub told : sections ≡ numbered 0 (setup ∷ workers)
+  pub reported : sections ≡ numbered 0 (setup ∷ workers)
 
 -- On nodes without events, caller 0 executed these commands, those of `setup`, all or up to where it stopped, and no other caller
 -- did anything; the workers' sections follow.

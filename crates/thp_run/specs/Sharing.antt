@@ -29,7 +29,7 @@ pub record IsWhole (callers : ℕ) (p : PassState) : Type 0 where
   pub end_is : p.end ≡ callers
 
 -- the pass has all of so many callers, of a node without events
-pub record IsFresh (callers : ℕ) (p : PassState) : Type 0 where
+pub record IsFreshPass (callers : ℕ) (p : PassState) : Type 0 where
   pub whole : IsWhole callers p
   pub front : p.front ≡ []
 

@@ -2,7 +2,7 @@
 ghost use Rattle.std.specs.Prelude.{◌≡◌, ◌<◌, ◌+◌, ◌++◌, ◌≤◌, ◌∷◌, [], OnOk, IfOk, IfSome, MatchOption, codes, drop, length, map, vec_capacity, vec_len};
 ghost use Rattle.std.specs.Fmt.{decimal};
 ghost use Rattle.std.specs.List.{flat_map};
-ghost use Rattle.thp_journal_writer.specs.Prelude.{line_of, ended, number_room, outcome_room, Takes};
+ghost use Rattle.thp_journal_writer.specs.Prelude.{spaced_line, ended, number_room, outcome_room, Takes};
 ghost use Rattle.thp_run.specs.Answers.{refusal_word, tried_words, back_words, scan_words, used_words, reply_words, looks, answer_line, section_text, with_stored, answers_text as text_of};
 ghost use Rattle.thp_run.specs.Prelude.{full_part, line_room, shape_of};
 ghost use Rattle.thp_worker.specs.Prelude.{stored};
@@ -166,7 +166,7 @@ pub(crate) fn put_answer<R: Recorder>(
 
 // the reply to a command that was not refused, on a node whose shrinker looks for underused pages or not
 fn put_reply(text: &mut Vec<u8>, looks: bool, reply: &Reply) -> Result<(), AllocError>
-    ensures text { OnOk result (text.new.items ≡ text.old.items ++ ended (line_of (reply_words looks reply.now))) }
+    ensures text { OnOk result (text.new.items ≡ text.old.items ++ ended (spaced_line (reply_words looks reply.now))) }
     ensures room { Takes outcome_room text.old text.new result }
 {
     match reply {
@@ -184,7 +184,7 @@ fn put_reply(text: &mut Vec<u8>, looks: bool, reply: &Reply) -> Result<(), Alloc
 
 // the result of a try
 fn put_tried(text: &mut Vec<u8>, tried: Tried) -> Result<(), AllocError>
-    ensures text { OnOk result (text.new.items ≡ text.old.items ++ ended (line_of (tried_words tried))) }
+    ensures text { OnOk result (text.new.items ≡ text.old.items ++ ended (spaced_line (tried_words tried))) }
     ensures room { Takes 28 text.old text.new result }
 {
     match tried {
@@ -197,7 +197,7 @@ fn put_tried(text: &mut Vec<u8>, tried: Tried) -> Result<(), AllocError>
 
 // the counts of a scan
 fn put_scan(text: &mut Vec<u8>, looks: bool, counted: ScanReply) -> Result<(), AllocError>
-    ensures text { OnOk result (text.new.items ≡ text.old.items ++ ended (line_of (scan_words counted ++ used_words looks counted))) }
+    ensures text { OnOk result (text.new.items ≡ text.old.items ++ ended (spaced_line (scan_words counted ++ used_words looks counted))) }
     ensures room { Takes 163 text.old text.new result }
 {
     put_named(text, b"taken ", u64::from(counted.taken), b' ')?;
@@ -214,7 +214,7 @@ fn put_scan(text: &mut Vec<u8>, looks: bool, counted: ScanReply) -> Result<(), A
 // the numbers of pages put back and dropped, and the byte `after`
 #[inline]
 fn put_back(text: &mut Vec<u8>, back: u32, dropped: u32, after: u8) -> Result<(), AllocError>
-    ensures text { OnOk result (text.new.items ≡ text.old.items ++ (line_of (back_words back dropped) ++ after ∷ [])) }
+    ensures text { OnOk result (text.new.items ≡ text.old.items ++ (spaced_line (back_words back dropped) ++ after ∷ [])) }
     ensures room { Takes 55 text.old text.new result }
 {
     put_named(text, b"back ", u64::from(back), b' ')?;
@@ -223,7 +223,7 @@ fn put_back(text: &mut Vec<u8>, back: u32, dropped: u32, after: u8) -> Result<()
 
 // why a command was refused
 fn put_refusal(text: &mut Vec<u8>, refusal: Refusal) -> Result<(), AllocError>
-    ensures text { OnOk result (text.new.items ≡ text.old.items ++ ended (line_of (codes "refused" ∷ refusal_word refusal ∷ []))) }
+    ensures text { OnOk result (text.new.items ≡ text.old.items ++ ended (spaced_line (codes "refused" ∷ refusal_word refusal ∷ []))) }
     ensures room { Takes 19 text.old text.new result }
 {
     put(text, b"refused ")?;

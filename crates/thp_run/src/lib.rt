@@ -31,7 +31,7 @@ pub use answers::{AnswerParts, answers_text};
 pub use checking::check_run;
 pub use listed::{Section, Worked, report_text, work, work_rest};
 pub use program::run_program;
-pub use report::{journals_text, report_of_logs, totals_tell_no_block, totals_text};
+pub use report::{journals_text, report_of_logs, totals_report_no_block, totals_text};
 pub use running::run;
 pub use script_run::{RunResult, run_script};
 pub use thp_cli::{Ending, Line, ProgramFault, RunFault, Watched, WordsFault, read_line, words_of};

@@ -2,8 +2,8 @@
 //! or only count them, for callers that need all answers as values.
 ghost use Rattle.std.specs.Prelude.{◌≡◌, ◌+◌, ◌<◌, ◌≤◌, ◌^◌, ◌++◌, ◌∷◌, [], All, IfOk, OnOk, Some, false, length, map, replicate, slice_get};
 ghost use Rattle.thp_run.specs.Listed.{left_open, open_at, stays_open, to_put_back, without_first};
-ghost use Rattle.thp_run.specs.Prelude.{IsWhole, WorksOn, report_of, section_of, sections_of, told_of};
-ghost use Rattle.thp_worker.specs.Prelude.{Fronts, Goes, HoldsAllCallers, HoldsCaller, HasNoBatch, IsCommandFor, marked, stored};
+ghost use Rattle.thp_run.specs.Prelude.{NothingIsLeft, WorksOn, report_of, reported_journal, reported_section, reported_sections};
+ghost use Rattle.thp_worker.specs.Prelude.{Fronts, Goes, HoldsAllCallers, HoldsCaller, HasNoBatch, IsWorkFor, marked, stored};
 ghost use Rattle.thp_worker.specs.declared.answer_log.Answers.TheVariants.{Kept};
 ghost use Rattle.thp_worker.specs.declared.reply.Answer.{Answer as StoredAnswer};
 
@@ -99,11 +99,11 @@ pub fn work<S: Steps, G: Gate>(
 ) -> Result<Worked, AllocError>
     requires caller { HoldsCaller (S.fronts steps.old) worker }
     requires few { length commands.now < 2 ^ 32 }
-    requires commands { All (IsCommandFor (S.fronts steps.old).nodes) commands.now }
+    requires commands { All (IsWorkFor (S.fronts steps.old).nodes) commands.now }
     requires shut { HasNoBatch worker (S.fronts steps.old) }
     ensures goes { Goes worker (S.fronts steps.old) (S.fronts steps.new) }
     ensures works { IfOk result (WorksOn worker (S.fronts steps.old) (S.fronts steps.new) commands.now) }
-    ensures done { HoldsAllCallers (S.fronts steps.old) → IfOk result IsWhole }
+    ensures done { HoldsAllCallers (S.fronts steps.old) → IfOk result NothingIsLeft }
 {
     let room = Vec::with_capacity(alloc, commands.len())?;
     let worked = thp_worker::work(alloc, commands, worker, Answers::Kept, steps, gate)?;
@@ -121,11 +121,11 @@ pub fn work_rest<S: Steps>(
 ) -> Result<Worked, AllocError>
     requires caller { HoldsCaller (S.fronts steps.old) worker }
     requires few { length commands.now < 2 ^ 32 }
-    requires commands { All (IsCommandFor (S.fronts steps.old).nodes) commands.now }
+    requires commands { All (IsWorkFor (S.fronts steps.old).nodes) commands.now }
     requires worked { (old : Fronts) × WorksOn worker old (S.fronts steps.old) commands.now worked }
     ensures goes { Goes worker (S.fronts steps.old) (S.fronts steps.new) }
     ensures works { (old : Fronts) → WorksOn worker old (S.fronts steps.old) commands.now worked → IfOk result (WorksOn worker old (S.fronts steps.new) commands.now) }
-    ensures done { HoldsAllCallers (S.fronts steps.old) → IfOk result IsWhole }
+    ensures done { HoldsAllCallers (S.fronts steps.old) → IfOk result NothingIsLeft }
 {
     let Some(rest) = worked.rest else {
         return Ok(worked);
@@ -152,7 +152,7 @@ pub fn report_text(
     nodes: &[Node],
     sections: &[Section],
 ) -> Result<Vec<u8>, AllocError>
-    ensures { IfOk result (λ text. text.items ≡ report_of settings.now.report (map told_of nodes.now) (sections_of sections.now)) }
+    ensures { IfOk result (λ text. text.items ≡ report_of settings.now.report (map reported_journal nodes.now) (reported_sections sections.now)) }
 {
     let mut kept = Vec::with_capacity(alloc, sections.len())?;
     for section in sections {
@@ -196,7 +196,7 @@ fn open_at(
     answers: &[Answer],
     rest: &Rest,
 ) -> Result<Vec<bool>, AllocError>
-    requires { All (IsCommandFor nodes) commands.now }
+    requires { All (IsWorkFor nodes) commands.now }
     ensures { IfOk result (λ opened. opened.items ≡ open_at nodes commands.now answers.now rest.now) }
 {
     let opened = left_open(alloc, nodes, commands, answers)?;
@@ -215,7 +215,7 @@ fn left_open(
     commands: &[Command],
     answers: &[Answer],
 ) -> Result<Vec<bool>, AllocError>
-    requires { All (IsCommandFor nodes) commands.now }
+    requires { All (IsWorkFor nodes) commands.now }
     ensures { IfOk result (λ opened. opened.items ≡ left_open (replicate nodes false) commands.now answers.now) }
 {
     let mut opened = vec![in alloc; false; nodes as usize]?;

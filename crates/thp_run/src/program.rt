@@ -4,7 +4,7 @@ ghost use Rattle.thp_history.specs.Prelude.{max_order};
 ghost use Rattle.thp_script.specs.Prelude.{max_nodes};
 ghost use Rattle.thp_cli.specs.Prelude.{IsLineWithinLimits, device_of, given_words, source_of};
 ghost use Rattle.thp_run.specs.Choices.{Chooses, HasBadOrders, HasOrders};
-ghost use Rattle.thp_run.specs.Outcomes.{Does, Finishes, Served};
+ghost use Rattle.thp_run.specs.Outcomes.{Finishes, LineIsDone, Served};
 
 use crate::checking::check_run;
 use crate::running::run;
@@ -13,7 +13,7 @@ use std::io::{Read, Write};
 use std::thread::Threads;
 use thp_cli::{
     Ending, Line, Program, ProgramFault, RunFault, Watched, WordsFault, answer, read_line,
-    status_of_ending, tell, texts_of,
+    report_fault, status_of_ending, texts_of,
 };
 use thp_script::{Settings, read_orders, read_underused};
 use thp_worker::NoGate;
@@ -64,7 +64,7 @@ fn do_line<T: Threads + Sync, R: Read, W: Write>(
     requires within { IsLineWithinLimits line.now }
     requires reader { reader.old.failed ≡ false }
     requires output { output.old.failed ≡ false }
-    ensures { Does line.now (source_of R.remaining reader.old reader.new) (device_of W.contents output.old output.new) result }
+    ensures { LineIsDone line.now (source_of R.remaining reader.old reader.new) (device_of W.contents output.old output.new) result }
 {
     if line.check {
         if check_run(alloc, reader, output)? {
@@ -127,6 +127,6 @@ pub fn run_program<T: Threads + Sync, R: Read, W: Write, E: Write>(
 {
     match serve(rt, alloc, &words, reader, output) {
         Ok(ending) => status_of_ending(ending),
-        Err(fault) => tell(Program::Thpsplit, fault, errors),
+        Err(fault) => report_fault(Program::Thpsplit, fault, errors),
     }
 }

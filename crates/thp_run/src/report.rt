@@ -1,8 +1,8 @@
 //! The report of a run.
 ghost use Rattle.std.specs.Prelude.{◌≡◌, IfOk, map};
-ghost use Rattle.thp_journal_writer.specs.Prelude.{journal_text as journals_told, totals_of, totals_text};
-ghost use Rattle.thp_run.specs.Laws.{TotalsTellNoBlock};
-ghost use Rattle.thp_run.specs.Prelude.{report_of, told_of, with_stored};
+ghost use Rattle.thp_journal_writer.specs.Prelude.{journal_text as journals_reported, totals_of, totals_text};
+ghost use Rattle.thp_run.specs.Laws.{TotalsReportNoBlock};
+ghost use Rattle.thp_run.specs.Prelude.{report_of, reported_journal, with_stored};
 
 use crate::answers::answers_text;
 use std::alloc::{AllocError, Global};
@@ -21,14 +21,14 @@ use thp_worker::SectionLog;
 /// A report of answers has those that the sections store; the other reports ignore the sections. The text is written to
 /// one buffer, which grows. The call fails only if that is not possible. A refusal for lack of memory has no word: such a run has
 /// no report.
-#[tactic(auto, using(crate::proofs::ReportLaws::shapes_told))]
+#[tactic(auto, using(crate::proofs::ReportLaws::shapes_reported))]
 pub fn report_of_logs(
     alloc: Global,
     settings: &Settings,
     nodes: &[Node],
     sections: &[SectionLog],
 ) -> Result<Vec<u8>, AllocError>
-    ensures { IfOk result (λ text. text.items ≡ report_of settings.now.report (map told_of nodes.now) (map with_stored sections.now)) }
+    ensures { IfOk result (λ text. text.items ≡ report_of settings.now.report (map reported_journal nodes.now) (map with_stored sections.now)) }
 {
     match settings.report {
         Report::Totals => totals_text(alloc, nodes),
@@ -39,7 +39,7 @@ pub fn report_of_logs(
 
 /// Returns the journals of the nodes, in order.
 pub fn journals_text(alloc: Global, nodes: &[Node]) -> Result<Vec<u8>, AllocError>
-    ensures { IfOk result (λ text. text.items ≡ journals_told (map told_of nodes.now)) }
+    ensures { IfOk result (λ text. text.items ≡ journals_reported (map reported_journal nodes.now)) }
 {
     let mut histories = Vec::new(alloc);
     for node in nodes {
@@ -53,7 +53,7 @@ pub fn journals_text(alloc: Global, nodes: &[Node]) -> Result<Vec<u8>, AllocErro
 
 /// Returns the totals of the nodes, in order. The nodes need not store their events.
 pub fn totals_text<R: Recorder>(alloc: Global, nodes: &[Node<R>]) -> Result<Vec<u8>, AllocError>
-    ensures { IfOk result (λ text. text.items ≡ totals_text (map told_of nodes.now)) }
+    ensures { IfOk result (λ text. text.items ≡ totals_text (map reported_journal nodes.now)) }
 {
     let mut text = Vec::new(alloc);
     for (number, node) in nodes.iter().enumerate() {
@@ -85,6 +85,6 @@ fn totals_of<R: Recorder>(node: &Node<R>) -> Totals
 }
 
 /// States that nodes that are equal except for the blocks of their pages have the same totals.
-pub fn totals_tell_no_block()
-    ensures { TotalsTellNoBlock }
+pub fn totals_report_no_block()
+    ensures { TotalsReportNoBlock }
 {}

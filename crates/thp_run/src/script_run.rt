@@ -4,13 +4,13 @@ ghost use Rattle.std.specs.Prelude.{◌≡◌, ◌↔◌, ◌+◌, ◌<◌, ◌�
 ghost use Rattle.thp_cell.specs.Prelude.{PassState};
 ghost use Rattle.thp_worker.specs.declared.answer_log.Answers.TheVariants.{Kept as KeptAnswers, Counted as CountedAnswers};
 ghost use Rattle.thp_worker.specs.declared.answer_log.Answers.{Answers};
-ghost use Rattle.thp_worker.specs.Prelude.{Agree, AllWork, AnswersAre, Fronts, HoldsAllCallers, IsDoneFor, IsSection, KeepsNode, fronts_in};
+ghost use Rattle.thp_worker.specs.Prelude.{Agree, AllWork, AnswersAre, AreCommandsFor, Fronts, HoldsAllCallers, IsDoneFor, KeepsNode, fronts_in};
 ghost use Rattle.thp_script.specs.Prelude.{after_setup, max_workers, IsScriptFor};
 ghost use Rattle.thp_script.specs.declared.script.Command.{Command};
 ghost use Rattle.atomic_table.specs.Seated.{TableId};
 ghost use Rattle.thp_script.specs.declared.script.ScriptSections.{ScriptSections};
-ghost use Rattle.thp_run.specs.Prelude.{AreFew, AreNew, AreNodesFor, HasBegun, IsFresh, IsRun, RunsOn, SectionAnswersAre, histories_of, shapes_of};
-ghost use Rattle.thp_run.specs.NewNodes.{shape_of};
+ghost use Rattle.thp_run.specs.Prelude.{AreFew, AreNew, AreNodesFor, HasBegun, IsFreshPass, IsRun, RunsOn, SectionAnswersAre, histories_of, shapes_of};
+ghost use Rattle.thp_run.specs.NewNodes.{new_shape};
 ghost use Rattle.thp_run.specs.Sharing.{pass_of};
 ghost use Rattle.thp_run.specs.Sections.{numbered, GoesFrom, InOrder, IsSetUp, RunsTo};
 
@@ -87,8 +87,8 @@ fn new_cell<N: Recorder>(
 ) -> Result<(NodeCell<N>, Pass<N>), AllocError>
     requires { index < settings.now.nodes }
     ensures cell { IfOk result (λ r. r.1.cell ≡ r.0) }
-    ensures shape { IfOk result (λ r. r.1.shape ≡ shape_of settings.now index) }
-    ensures fresh { IfOk result (λ r. IsFresh (settings.now.workers + 1) r.1) }
+    ensures shape { IfOk result (λ r. r.1.shape ≡ new_shape settings.now index) }
+    ensures fresh { IfOk result (λ r. IsFreshPass (settings.now.workers + 1) r.1) }
 {
     let shape = Shape {
         blocks: settings.blocks,
@@ -243,7 +243,7 @@ fn do_rest<P: Steps>(
     requires holds { HoldsAllCallers (P.fronts passes.old) }
     requires callers { (P.fronts passes.old).callers ≡ 1 + length workers.now }
     requires most { length workers.now ≤ max_workers }
-    requires sections { All (IsSection (P.fronts passes.old).nodes) workers.now }
+    requires sections { All (AreCommandsFor (P.fronts passes.old).nodes) workers.now }
     requires worked { (old : Fronts) × AllWork 1 old (P.fronts passes.old) workers.now worked.items }
     ensures goes { IfOk result (λ _. GoesFrom 1 (P.fronts passes.old) (P.fronts passes.new)) }
     ensures work { (old : Fronts) → AllWork 1 old (P.fronts passes.old) workers.now worked.items → IfOk result (λ r. AllWork 1 old (P.fronts passes.new) workers.now r.items) }

@@ -9,7 +9,7 @@ use Rattle.std.proofs.lemmas.List.Folds.{list_all-append}
 use Rattle.std.proofs.lemmas.Option.{cond_some}
 use Rattle.std.proofs.Math.Seq.{take-length}
 use Rattle.thp_history.specs.Prelude.{max_batch}
-use Rattle.thp_script.specs.Prelude.{Command, Op, CommandWord, OfNode, OfPage, OfRange, OfBatch, Settings, Call, FastCommand, FastLine, IsName, FastOperands, FastNumber, batch_command, command_of, node_command, page_command, range_command, Reading, reading_of, by_words, section_or_call, Text, is_numeral, lines_of, number_of, pieces_at, words_of}
+use Rattle.thp_script.specs.Prelude.{Command, Op, CommandWord, OfNode, OfPage, OfRange, OfBatch, Settings, Call, FastCommand, FastLine, IsName, FastOperands, FastNumber, batch_command, command_of, node_command, page_command, range_command, Reading, reading_of, by_words, section_or_call, Text, is_numeral, lines_of, number_of, pieces_at, words_in_line}
 use Rattle.thp_script.specs.declared.script.Op.TheVariants.{Alloc, Close, Count, SplitNext, PutBack}
 use Rattle.thp_script.specs.declared.script.BatchCall.TheVariants as batch
 use Rattle.thp_script.specs.declared.script.RangeCall.TheVariants as range
@@ -160,7 +160,7 @@ pub command_of_name : (s : Settings) (name : Text) (reading : Reading) (text ope
 unfolding word_more
 command_of_name s name reading text operands rest command n e o =
     let line = word_more name o.words text operands rest n.one_word n.one_line e o.line in
-    let read : Ok (Call command) ≡ by_words s (words_of line.line) = rw (line.words_are, n.reads o.words, o.reads) refl in
+    let read : Ok (Call command) ≡ by_words s (words_in_line line.line) = rw (line.words_are, n.reads o.words, o.reads) refl in
     record {
       line = line.line;
       lines = begins_with_line text line.line rest line.one_line line.stands;

@@ -4,7 +4,7 @@ use Rattle.std.proofs.Common.{◌≡◌, ◌<◌, ◌≤◌, ℕ, Bool, true, fa
 use Rattle.std.specs.List.{AllByRecursion, list_all, list_any}
 use Rattle.std.proofs.lemmas.List.Elements.{All-cons}
 use Rattle.thp_history.specs.Prelude.{max_batch}
-use Rattle.thp_script.specs.Prelude.{TextKind, BadByte, BadWord, Command, Op, Settings, Statement, Section, batch_command, command_in, command_of, commands, node_command, node_number, page_command, range_command, FitsBatch, IsCommandFor, Reading, is_empty, is_printable, by_words, call_of, says_nothing, section_of, section_or_call, statement_in, statement_of, worker_number, worker_of, worker_or_call, IsInRange, IsSectionFor, Text, words_of}
+use Rattle.thp_script.specs.Prelude.{TextKind, BadByte, BadWord, Command, Op, Settings, Statement, Section, batch_command, command_in, command_of, commands, node_command, node_number, page_command, range_command, FitsBatch, IsCommandFor, Reading, is_empty, is_printable, by_words, call_statement, says_nothing, section_of, section_or_call, statement_in, statement_of, worker_number, worker_of, worker_or_call, IsInRange, IsSectionFor, Text, words_in_line}
 use Rattle.thp_script.specs.declared.script.Op.TheVariants.{Alloc, MapWhole, UnmapWhole, Map, Unmap, Write, Zero, SplitPmd, Pin, Unpin, Close, Scan, Count, Take, SplitNext, PutBack}
 use Rattle.thp_script.specs.Statements.{setup_of}
 use Rattle.thp_script.proofs.LineLaws.{IsPlain, bind_ok, none_empty, number_read, ok_value, one_plain, pieces_printable, plain_word, read, word_cases}
@@ -154,7 +154,7 @@ worker_read s name (a ∷ []) statement plain e =
     record { words_plain = All-cons IsPlain name (a ∷ []) plain (one_plain a read.0); in_range = subst (λ t. IsInRange s t) is read.1 }
 worker_read s name (a ∷ b ∷ words) statement plain e = absurd cc
 
-call_read : (s : Settings) (name : Text) (words : List Text) (statement : Statement) → call_of s name words ≡ Ok statement → IsReadLine s (name ∷ words) statement
+call_read : (s : Settings) (name : Text) (words : List Text) (statement : Statement) → call_statement s name words ≡ Ok statement → IsReadLine s (name ∷ words) statement
 call_read s name words statement e = grind (arith, bind_ok, read, command_read, ok_value, All-cons, IsPlain)
 
 later_read : (s : Settings) (name : Text) (words : List Text) (statement : Statement) → worker_or_call s name words ≡ Ok statement → IsReadLine s (name ∷ words) statement
@@ -175,20 +175,20 @@ line_read s (name ∷ words) statement e =
     ]
 
 -- a line that reads as a statement is printable and has no empty word
-pub read_is_printable : (s : Settings) (line : Text) (statement : Statement) → by_words s (words_of line) ≡ Ok statement → list_all is_printable line ≡ true
-read_is_printable s line statement e = pieces_printable line (line_read s (words_of line) statement e).words_plain
+pub read_is_printable : (s : Settings) (line : Text) (statement : Statement) → by_words s (words_in_line line) ≡ Ok statement → list_all is_printable line ≡ true
+read_is_printable s line statement e = pieces_printable line (line_read s (words_in_line line) statement e).words_plain
 
-pub read_has_no_empty : (s : Settings) (line : Text) (statement : Statement) → by_words s (words_of line) ≡ Ok statement → list_any is_empty (words_of line) ≡ false
-read_has_no_empty s line statement e = none_empty (words_of line) (line_read s (words_of line) statement e).words_plain
+pub read_has_no_empty : (s : Settings) (line : Text) (statement : Statement) → by_words s (words_in_line line) ≡ Ok statement → list_any is_empty (words_in_line line) ≡ false
+read_has_no_empty s line statement e = none_empty (words_in_line line) (line_read s (words_in_line line) statement e).words_plain
 
 -- a line that says something and reads as a statement says that
-pub statement_of-read : (s : Settings) (line : Text) (statement : Statement) → says_nothing line ≡ false → Ok statement ≡ by_words s (words_of line) → Ok statement ≡ statement_of s line
+pub statement_of-read : (s : Settings) (line : Text) (statement : Statement) → says_nothing line ≡ false → Ok statement ≡ by_words s (words_in_line line) → Ok statement ≡ statement_of s line
 unfolding statement_of
 statement_of-read s line statement says e = grind (arith, read_is_printable, read_has_no_empty)
 
 -- and one that doesn't has the first fault that applies
-pub statement_of-fails : (s : Settings) (line : Text) (reading : TextKind) → says_nothing line ≡ false → Err reading ≡ by_words s (words_of line)
-    → Err (cond (list_all is_printable line) (cond (list_any is_empty (words_of line)) BadWord reading) BadByte) ≡ statement_of s line
+pub statement_of-fails : (s : Settings) (line : Text) (reading : TextKind) → says_nothing line ≡ false → Err reading ≡ by_words s (words_in_line line)
+    → Err (cond (list_all is_printable line) (cond (list_any is_empty (words_in_line line)) BadWord reading) BadByte) ≡ statement_of s line
 unfolding statement_of
 statement_of-fails s line reading says e = grind arith
 

@@ -7,7 +7,7 @@ use Rattle.std.proofs.lemmas.Bool.{and_from, and_parts, le-leb, leb-true, eqb-tr
 use Rattle.std.proofs.lemmas.List.Elements.{All-cons, All-head, All-nil, All-tail}
 use Rattle.std.proofs.lemmas.Option.{cond_some}
 use Rattle.std.proofs.lemmas.Slice.Eq.{bytes_eq-Decides}
-use Rattle.thp_script.specs.Prelude.{TextKind, BadNumber, number_up_to, is_empty, is_printable, ◌>>=◌, Text, number_of, words_of}
+use Rattle.thp_script.specs.Prelude.{TextKind, BadNumber, number_up_to, is_empty, is_printable, ◌>>=◌, Text, number_of, words_in_line}
 use Rattle.thp_script.proofs.NumberLaws.{numeral_parts}
 use Rattle.thp_script.proofs.PieceLaws.{has_first}
 
@@ -66,18 +66,18 @@ pub none_empty : (words : List Text) → All IsPlain words → list_any is_empty
 none_empty [] plain = refl
 none_empty (word ∷ words) plain = rw ((All-head IsPlain word words plain).some, none_empty words (All-tail IsPlain word words plain)) refl
 
-pub pieces_printable : (line : Text) → All IsPlain (words_of line) → list_all is_printable line ≡ true
+pub pieces_printable : (line : Text) → All IsPlain (words_in_line line) → list_all is_printable line ≡ true
 pieces_printable line plain = go line (λ k d lt. (plain k d lt).printable)
   where
-    go : (text : Text) → All (λ (w : Text). list_all is_printable w ≡ true) (words_of text) → list_all is_printable text ≡ true
+    go : (text : Text) → All (λ (w : Text). list_all is_printable w ≡ true) (words_in_line text) → list_all is_printable text ≡ true
     go [] all = refl
     go (b ∷ text) all = by (b == 32) refl (has_first 32 text) (go text) all
       where
-        by : (t : Bool) → (b == 32) ≡ t → (f : (first : Text) × (others : List Text) × (words_of text ≡ first ∷ others)) → (All (λ (w : Text). list_all is_printable w ≡ true) (words_of text) → list_all is_printable text ≡ true)
-            → All (λ (w : Text). list_all is_printable w ≡ true) (cond t ([] ∷ words_of text) (onto_first b (words_of text))) → list_all is_printable (b ∷ text) ≡ true
+        by : (t : Bool) → (b == 32) ≡ t → (f : (first : Text) × (others : List Text) × (words_in_line text ≡ first ∷ others)) → (All (λ (w : Text). list_all is_printable w ≡ true) (words_in_line text) → list_all is_printable text ≡ true)
+            → All (λ (w : Text). list_all is_printable w ≡ true) (cond t ([] ∷ words_in_line text) (onto_first b (words_in_line text))) → list_all is_printable (b ∷ text) ≡ true
         by true is f rest all =
             let space : b ≡ 32 = eqb-true b 32 is in
-            and_from (is_printable b) (list_all is_printable text) (rw space refl) (rest (All-tail (λ (w : Text). list_all is_printable w ≡ true) [] (words_of text) all))
+            and_from (is_printable b) (list_all is_printable text) (rw space refl) (rest (All-tail (λ (w : Text). list_all is_printable w ≡ true) [] (words_in_line text) all))
         by false is f rest all =
             let own : All (λ (w : Text). list_all is_printable w ≡ true) ((b ∷ f.0) ∷ f.1) = subst (λ (ws : List Text). All (λ (w : Text). list_all is_printable w ≡ true) (onto_first b ws)) f.2 all in
             let p = and_parts (is_printable b) (list_all is_printable f.0) (All-head (λ (w : Text). list_all is_printable w ≡ true) (b ∷ f.0) f.1 own) in

@@ -1,13 +1,13 @@
 -- A script of which a part is being read: what stays true of it behind each line.
 use Rattle.std.proofs.Common.{◌≡◌, ◌+◌, ◌-◌, ◌^◌, ◌<◌, ◌≤◌, ℕ, List, [], ◌∷◌, ◌++◌, length, Option, Some, Result, Ok, arith, refl, min, nat_lt, length-append}
 use Rattle.std.proofs.lemmas.Bool.{cases_lt, le-ltb, lt-ltb}
-use Rattle.thp_script.specs.Prelude.{Command, Settings, Statement, Call, spelled_after, FastCommand, IsPartRead, with_commands, placed, Fault, section_after, statement_in, after_line, fault_with, read_unless, told_after, with_part, IsCounted, TextSoFar, Text, lines_of}
+use Rattle.thp_script.specs.Prelude.{Command, Settings, Statement, Call, spelled_after, FastCommand, IsPartRead, with_commands, placed, Fault, section_after, statement_in, after_line, fault_with, read_unless, result_after, with_part, IsCounted, TextSoFar, Text, lines_of}
 use Rattle.thp_script.proofs.GrammarLaws.{statement_in_range}
 use Rattle.thp_script.proofs.PartLaws.{added_in_range, count_stays, line_spells}
 use Rattle.thp_script.proofs.ScriptLaws.{section_has_place, section_in_range}
 use Rattle.thp_script.proofs.TextLaws.{first_line}
 
--- a whole line that says something in its place, of which what was read is told
+-- a whole line that says something in its place, of which what was read is reported
 module _ (s : Settings) (sections added : List (List Command)) (section next : Option ℕ) (t new : TextSoFar) (rest after line : Text) (statement : Statement) where
   pub line_spelled : ((more : Text) → lines_of (t.begun ++ (rest ++ more)) ≡ line ∷ lines_of (after ++ more)) → Ok statement ≡ statement_in s section line
       → added ≡ with_commands sections (placed section statement) → next ≡ section_after section statement → new ≡ after_line t
@@ -43,7 +43,7 @@ module _ (s : Settings) (sections added : List (List Command)) (section : Option
 count_fits : (most given part : ℕ) → most ≤ 2 ^ 64 - 2 → min (given + part) (2 ^ 64 - 1) ≤ most → min (given + part) (2 ^ 64 - 1) ≡ given + part
 count_fits most given part counted le = omega arith
 
--- the text so far with a part that is still to be read, and the part behind the text so far, are told the same
+-- the text so far with a part that is still to be read, and the part behind the text so far, give the same result
 pub part_begins : {A : Type 0} (t new : TextSoFar) (part rest more : Text) (reads : ℕ → Text → Result A Fault) → t.most ≤ 2 ^ 64 - 2 → new ≡ with_part t part → rest ≡ read_unless (fault_with new []) part
-    → told_after new more (reads new.line (new.begun ++ (rest ++ more))) ≡ told_after t (part ++ more) (reads t.line (t.begun ++ (part ++ more)))
+    → result_after new more (reads new.line (new.begun ++ (rest ++ more))) ≡ result_after t (part ++ more) (reads t.line (t.begun ++ (part ++ more)))
 part_begins {A} t new part rest more reads counted is-new is-rest = grind (arith, cases_lt, length-append, lt-ltb, count_fits, nat_lt, le-ltb)

@@ -1,7 +1,7 @@
--- Texts that come in parts: lines that are joined, and what is told once a part has come.
+-- Texts that come in parts: lines that are joined, and what is reported once a part has come.
 use Rattle.std.proofs.Common.{◌≡◌, ◌+◌, ◌-◌, ◌==◌, ℕ, Bool, cond, List, [], ◌∷◌, ◌++◌, length, Option, Some, None, Result, Err, refl, sym, append_assoc, arith, nat_lt, if◌then◌else◌}
 use Rattle.std.specs.List.{onto_first}
-use Rattle.thp_script.specs.Prelude.{TextKind, TooLong, Fault, after_line, fault_with, first_fault, nothing_of, told_after, unless, with_begun, with_fault, TextSoFar, Text, lines_of, pieces_at}
+use Rattle.thp_script.specs.Prelude.{TextKind, TooLong, Fault, after_line, fault_with, first_fault, nothing_of, result_after, unless, with_begun, with_fault, TextSoFar, Text, lines_of, pieces_at}
 use Rattle.thp_script.proofs.PieceLaws.{has_first, HasFirst}
 
 -- ---- pieces of two texts, one behind the other
@@ -48,30 +48,30 @@ pub nothing_begun : (begun piece : Text) → length begun ≡ 0 → begun ++ pie
 nothing_begun [] piece none = refl
 nothing_begun (b ∷ begun) piece none = absurd (omega arith)
 
--- ---- what is told once a part has come
+-- ---- what is reported once a part has come
 
 too_much : {A : Type 0} (too_long : Bool) (long : Fault) (read : Result A Fault) → unless (cond too_long (Some long) None) read ≡ cond too_long (Err long) read
 too_much x long read = grind arith
 
 -- nothing has come: the text to come is the whole
-pub whole_comes : {A : Type 0} (most : ℕ) (text : Text) (read : Result A Fault) → told_after (nothing_of most) text read ≡ (if nat_lt most (length text) then Err (0, TooLong) else read)
+pub whole_comes : {A : Type 0} (most : ℕ) (text : Text) (read : Result A Fault) → result_after (nothing_of most) text read ≡ (if nat_lt most (length text) then Err (0, TooLong) else read)
 whole_comes most text read = grind (arith, too_much, nat_lt)
 
 -- what is left of a part has begun a line
 pub line_begins : {A : Type 0} (t new : TextSoFar) (rest more : Text) (reads : ℕ → Text → Result A Fault) → new ≡ with_begun t rest
-    → told_after new more (reads new.line (new.begun ++ more)) ≡ told_after t more (reads t.line (t.begun ++ (rest ++ more)))
+    → result_after new more (reads new.line (new.begun ++ more)) ≡ result_after t more (reads t.line (t.begun ++ (rest ++ more)))
 line_begins t new rest more reads is = rw (is, append_assoc t.begun rest more) refl
 
 either_way : {A : Type 0} (too_long : Bool) (long : Fault) (earlier : Option Fault) (fault : Fault) (read : Result A Fault) → unless (cond too_long (Some long) (Some (first_fault earlier fault))) read ≡ unless (cond too_long (Some long) earlier) (Err fault)
 either_way x long earlier fault read = grind arith
 
 -- a line is at fault, and nothing behind it is read
-pub fault_comes : {A : Type 0} (t new : TextSoFar) (fault : Fault) (more : Text) (read : Result A Fault) → new ≡ with_fault t fault → told_after new more read ≡ told_after t more (Err fault)
+pub fault_comes : {A : Type 0} (t new : TextSoFar) (fault : Fault) (more : Text) (read : Result A Fault) → new ≡ with_fault t fault → result_after new more read ≡ result_after t more (Err fault)
 fault_comes t new fault more read is = rw is (either_way (nat_lt t.most (t.given + length more)) (0, TooLong) t.fault fault read)
 
 -- where nothing is at fault so far, what is read counts
-pub told_end : {A : Type 0} (t : TextSoFar) (read : Result A Fault) → fault_with t [] ≡ None → told_after t [] read ≡ read
-told_end t read sound = rw sound refl
+pub reported_end : {A : Type 0} (t : TextSoFar) (read : Result A Fault) → fault_with t [] ≡ None → result_after t [] read ≡ read
+reported_end t read sound = rw sound refl
 
 -- a fault that is noted behind a line is that line's
 pub noted : (new t : TextSoFar) (kind : TextKind) → new ≡ after_line t → with_fault new (new.line - 1, kind) ≡ with_fault (after_line t) (t.line, kind)

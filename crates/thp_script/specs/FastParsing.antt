@@ -11,13 +11,13 @@ use Rattle.thp_script.specs.Parts.{lines_spell}
 use Rattle.thp_script.specs.Readings.{◌>>=◌}
 use Rattle.thp_script.specs.Scripts.{Fault}
 use Rattle.thp_script.specs.Statements.{by_words, says_nothing, statement_of, IsSectionFor}
-use Rattle.thp_script.specs.TextInParts.{told_after, IsCounted, TextSoFar}
-use Rattle.thp_script.specs.Words.{Text, lines_of, pieces_at, words_of}
+use Rattle.thp_script.specs.TextInParts.{result_after, IsCounted, TextSoFar}
+use Rattle.thp_script.specs.Words.{Text, lines_of, pieces_at, words_in_line}
 
 -- the text begins with a line of these words, and continues with `rest`
 pub record FastLine (words : List Text) (text rest : Text) : Type 0 where
   pub line : Text
-  pub words_are : words_of line ≡ words
+  pub words_are : words_in_line line ≡ words
   pub one_line : lines_of line ≡ line ∷ []
   pub stands : text ≡ line ++ 10 ∷ rest
 
@@ -43,7 +43,7 @@ pub record IsName (s : Settings) (name : Text) (reading : Reading) : Type 0 wher
 
 -- the result for the text read, the rest of a part and the text to follow
 abbrev pub spelled_after : Settings → List (List Command) → Option ℕ → TextSoFar → Text → Text → Result ScriptSections Fault
-spelled_after s sections section t rest more = told_after t more (lines_spell s sections section t.line (t.begun ++ (rest ++ more)))
+spelled_after s sections section t rest more = result_after t more (lines_spell s sections section t.line (t.begun ++ (rest ++ more)))
 
 -- the invariant of a script that is being read while so much of a part is left
 pub record IsPartRead (s : Settings) (sections : List (List Command)) (section : Option ℕ) (t : TextSoFar) (rest : Text) : Type 0 where

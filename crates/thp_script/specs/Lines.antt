@@ -3,7 +3,7 @@ use Rattle.std.specs.Prelude.{◌==◌, ◌&&◌, nat_le, ℕ, Bool, [], ◌∷�
 use Rattle.std.specs.List.{list_all, list_any}
 use Rattle.thp_script.specs.declared.fault.TextKind.{TextKind}
 use Rattle.thp_script.specs.declared.fault.TextKind.TheVariants.{BadByte, Cut, BadWord}
-use Rattle.thp_script.specs.Words.{Text, words_of}
+use Rattle.thp_script.specs.Words.{Text, words_in_line}
 
 -- a printable character of ASCII, 0x20 to 0x7E
 abbrev pub is_printable : ℕ → Bool
@@ -15,7 +15,7 @@ is_empty word = length word == 0
 
 -- the error of a line whose words can't be parsed, for this reason: a bad byte takes precedence, then an empty word
 abbrev pub fault_of_line : Text → TextKind → TextKind
-fault_of_line line reading = if list_all is_printable line then (if list_any is_empty (words_of line) then BadWord else reading) else BadByte
+fault_of_line line reading = if list_all is_printable line then (if list_any is_empty (words_in_line line) then BadWord else reading) else BadByte
 
 -- the text after the last line feed: empty, or a line that is cut
 unfoldable pub fault_after : Text → Option TextKind

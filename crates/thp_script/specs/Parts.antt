@@ -8,7 +8,7 @@ use Rattle.thp_script.specs.Limits.{max_input}
 use Rattle.thp_script.specs.Readings.{◌>>=◌}
 use Rattle.thp_script.specs.Scripts.{Fault, Placed, commands_from}
 use Rattle.thp_script.specs.Statements.{IsSectionFor}
-use Rattle.thp_script.specs.TextInParts.{told_after, TextSoFar}
+use Rattle.thp_script.specs.TextInParts.{result_after, TextSoFar}
 use Rattle.thp_script.specs.Words.{Text, lines_of}
 
 -- The state of reading a script: the commands of each section, `setup` first; the section of the last line; and the text read so
@@ -35,12 +35,12 @@ lines_spell s sections section line text = commands_from s line section (lines_o
 
 -- the script in the text so far and the following text, or its first error
 abbrev pub spelled_with : ReadSoFar → Text → Result ScriptSections Fault
-spelled_with r more = told_after r.text more (lines_spell r.settings r.sections r.section r.text.line (r.text.begun ++ more))
+spelled_with r more = result_after r.text more (lines_spell r.settings r.sections r.section r.text.line (r.text.begun ++ more))
 
 -- the commands of `setup`, which is the first section
-abbrev pub setup_of : List (List Command) → List Command
-setup_of [] = []
-setup_of (setup ∷ workers) = setup
+abbrev pub first_section : List (List Command) → List Command
+first_section [] = []
+first_section (setup ∷ workers) = setup
 
 -- the script with these commands at the beginning of its `setup`
 abbrev pub after_setup : List Command → ScriptSections → ScriptSections

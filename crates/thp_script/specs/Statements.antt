@@ -7,7 +7,7 @@ use Rattle.thp_script.specs.declared.settings.Settings.{Settings}
 use Rattle.thp_script.specs.declared.statement.Statement.{Statement}
 use Rattle.thp_script.specs.declared.statement.Statement.TheVariants.{Nothing, Section, Call}
 use Rattle.thp_script.specs.Readings.{◌>>=◌}
-use Rattle.thp_script.specs.Words.{Text, words_of}
+use Rattle.thp_script.specs.Words.{Text, words_in_line}
 use Rattle.thp_script.specs.Lines.{is_empty, is_printable}
 use Rattle.thp_script.specs.Commands.{command_of, number_up_to, one_word, IsCommandFor}
 
@@ -32,14 +32,14 @@ worker_of s words = do
   k ← worker_number s word
   Ok (Section k)
 
-abbrev pub call_of : Settings → Text → List Text → Result Statement TextKind
-call_of s name words = command_of s name words >>= λ command. Ok (Call command)
+abbrev pub call_statement : Settings → Text → List Text → Result Statement TextKind
+call_statement s name words = command_of s name words >>= λ command. Ok (Call command)
 
 -- the section of a worker, or a command
 abbrev pub worker_or_call : Settings → Text → List Text → Result Statement TextKind
 worker_or_call s name words =
     if bytes_eq name (codes "worker") then worker_of s words
-    else call_of s name words
+    else call_statement s name words
 
 -- a section line or a command, by its first word and the others
 unfoldable pub section_or_call : Settings → Text → List Text → Result Statement TextKind
@@ -61,8 +61,8 @@ unfoldable pub statement_of : Settings → Text → Result Statement TextKind
 statement_of s line =
     if not (list_all is_printable line) then Err BadByte
     else if says_nothing line then Ok Nothing
-    else if list_any is_empty (words_of line) then Err BadWord
-    else by_words s (words_of line)
+    else if list_any is_empty (words_in_line line) then Err BadWord
+    else by_words s (words_in_line line)
 
 -- The section before a line: none before the first section line, 0 for `setup`, K for `worker K`. Sections are in ascending
 -- order, and each command is in one.

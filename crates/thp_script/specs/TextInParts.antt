@@ -48,8 +48,8 @@ unless (Some fault) read = Err fault
 unless None read = read
 
 -- the result after this text follows the text so far: an earlier error, or what is parsed
-abbrev pub told_after : {A : Type 0} → TextSoFar → Text → Result A Fault → Result A Fault
-told_after t more read = unless (fault_with t more) read
+abbrev pub result_after : {A : Type 0} → TextSoFar → Text → Result A Fault → Result A Fault
+result_after t more read = unless (fault_with t more) read
 
 -- nothing of a part is parsed after an error
 abbrev pub read_unless : Option Fault → Text → Text

@@ -21,8 +21,8 @@ abbrev pub lines_of : Text → List Text
 lines_of = pieces_at 10
 
 -- words are separated by single spaces (32)
-abbrev pub words_of : Text → List Text
-words_of = pieces_at 32
+abbrev pub words_in_line : Text → List Text
+words_in_line = pieces_at 32
 
 -- a word that is not empty and has no leading zero
 abbrev pub has_numeral_front : Text → Bool

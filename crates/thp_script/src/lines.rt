@@ -1,7 +1,7 @@
 //! Tests of each line of a text that do not depend on its format.
 ghost use Rattle.std.specs.Prelude.{◌≡◌};
 ghost use Rattle.std.specs.List.{list_all, list_any};
-ghost use Rattle.thp_script.specs.Prelude.{fault_after, fault_of_line, is_empty, is_printable, words_of};
+ghost use Rattle.thp_script.specs.Prelude.{fault_after, fault_of_line, is_empty, is_printable, words_in_line};
 
 use crate::fault::TextKind;
 
@@ -14,7 +14,7 @@ pub fn is_printable(line: &[u8]) -> bool
 
 /// Returns whether a line has an empty word: a space at its start or end, two in a row, or no word at all.
 pub fn has_empty_word(line: &[u8]) -> bool
-    ensures { result ≡ list_any is_empty (words_of line.now) }
+    ensures { result ≡ list_any is_empty (words_in_line line.now) }
 {
     line.split(|b| *b == b' ').any(|word| word.is_empty())
 }

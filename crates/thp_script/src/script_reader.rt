@@ -1,6 +1,6 @@
 //! Reads scripts from bytes.
 ghost use Rattle.std.specs.Prelude.{◌≡◌, ◌≢◌, ◌≤◌, ◌<◌, ◌+◌, ◌++◌, ◌∷◌, [], ℕ, List, All, IfOk, IfErr, IfSome, OnOk, length, replicate, slice_set, vec_len};
-ghost use Rattle.thp_script.specs.Prelude.{IsCommandFor, IsPartRead, IsScriptFor, ReportsFault, Text, placed, read_after, script_in, script_of, setup_of, spelled_after, spelled_with, with_commands};
+ghost use Rattle.thp_script.specs.Prelude.{IsCommandFor, IsPartRead, IsScriptFor, ReportsFault, Text, first_section, placed, read_after, script_in, script_of, spelled_after, spelled_with, with_commands};
 ghost use Rattle.thp_script.specs.declared.fault.ReadFault.TheVariants.{OutOfMemory};
 
 use crate::fault::ReadFault;
@@ -175,7 +175,7 @@ impl<'a> ScriptReader<'a> {
 
     /// Returns the commands of `setup` that were read and not dropped.
     pub fn setup(&self) -> &[Command]
-        ensures commands { result.now ≡ setup_of self.now.sections }
+        ensures commands { result.now ≡ first_section self.now.sections }
         ensures in_range { All (IsCommandFor self.now.settings.nodes) result.now }
     {
         self.sections[0].as_slice()
@@ -184,8 +184,8 @@ impl<'a> ScriptReader<'a> {
     /// Drops the commands of `setup` that were read, after they were executed. From then on `finish` returns the script without
     /// them; the script of the text has them at the beginning of its `setup`. Their memory is freed with the reader only.
     pub fn drop_setup(&mut self)
-        ensures text { (more : Text) → spelled_with self.old more ≡ read_after (setup_of self.old.sections) (spelled_with self.new more) }
-        ensures gone { setup_of self.new.sections ≡ [] }
+        ensures text { (more : Text) → spelled_with self.old more ≡ read_after (first_section self.old.sections) (spelled_with self.new more) }
+        ensures gone { first_section self.new.sections ≡ [] }
         ensures settings { self.new.settings ≡ self.old.settings }
     {
         self.sections[0].clear();

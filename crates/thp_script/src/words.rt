@@ -5,7 +5,7 @@ ghost use Rattle.std.specs.List.{list_all};
 ghost use Rattle.std.specs.Option.{option_copied};
 ghost use Rattle.std.specs.Char.{digit_value, is_ascii_digit};
 ghost use Rattle.std.specs.Str.Parse.{digits_value};
-ghost use Rattle.thp_script.specs.Words.{has_numeral_front, number_of, pieces_at, pieces_left, words_of};
+ghost use Rattle.thp_script.specs.Words.{has_numeral_front, number_of, pieces_at, pieces_left, words_in_line};
 
 use crate::fast_words::digit;
 use memchr::memchr;
@@ -56,7 +56,7 @@ impl<'a> Model for Words<'a> {
 impl<'a> Words<'a> {
     /// Returns the words of a line, before the first is read.
     pub fn of_line(line: &'a [u8]) -> Words<'a>
-        ensures { result ≡ words_of line.entry.now }
+        ensures { result ≡ words_in_line line.entry.now }
     {
         Words { rest: Some(line) }
     }

@@ -3,7 +3,7 @@ use Rattle.std.proofs.Common.{◌≡◌, ◌++◌, ℕ, [], ◌∷◌, refl, sym
 use Rattle.std.proofs.lemmas.List.{append-nil, map-append}
 use Rattle.std.proofs.lemmas.List.Elements.{All-nil, All-push}
 use Rattle.thp_script.specs.declared.script.Command.{Command}
-use Rattle.thp_worker.specs.Prelude.{CommandProgress, Reply, Step, Reaction, IsFit, answer_of, Fronts, HoldsCaller, Goes, Answered, StepDone, CommandState, On, Ended, Comes, by_cell, IsReady, is_scan, next_step, goes_on, scan_goes_on, Made, IsCommandFor, Proceeds, told_by}
+use Rattle.thp_worker.specs.Prelude.{CommandProgress, Reply, Step, Reaction, IsFit, answer_of, Fronts, HoldsCaller, Goes, Answered, StepDone, CommandState, On, Ended, Comes, by_cell, IsReady, is_scan, next_step, goes_on, scan_goes_on, Made, IsWorkFor, Proceeds, step_results}
 use Rattle.thp_cell.specs.declared.fault.CellFault.{CellFault}
 use Rattle.thp_cell.specs.declared.fault.CellFault.TheVariants.{Busy, Refused}
 use Rattle.thp_history.specs.declared.refusal.Refusal.{Refusal}
@@ -19,7 +19,7 @@ proceeds_none c command begun f ready = record {
   made = [];
   steps = steps_none c f;
   on_node = All-nil (λ (m : Made). m.node ≡ command.node);
-  turned = λ told is. rw (append-nil told) is;
+  turned = λ reported is. rw (append-nil reported) is;
   ready = ready;
 }
 
@@ -36,8 +36,8 @@ proceeds_more c command first begun old mid new answer has fit g p a =
       made = p.made ++ made ∷ [];
       steps = steps_then c old mid new p.made (made ∷ []) (goes_grows c old mid g) (goes_grows c mid new (goes_by c command.node begun command mid new answer a)) p.steps (steps_one c command.node (next_step command.op begun) mid new answer a has);
       on_node = All-push (λ (m : Made). m.node ≡ command.node) p.made made p.on_node refl;
-      turned = λ told is. rw (map-append (λ (m : Made). m.told) p.made (made ∷ []), ← append_assoc told (told_by p.made) (record { step = next_step command.op begun; answer = answer } ∷ []))
-          (turned command.op begun answer (told ++ told_by p.made) (p.turned told is) fare.0);
+      turned = λ reported is. rw (map-append (λ (m : Made). m.reported) p.made (made ∷ []), ← append_assoc reported (step_results p.made) (record { step = next_step command.op begun; answer = answer } ∷ []))
+          (turned command.op begun answer (reported ++ step_results p.made) (p.turned reported is) fare.0);
       ready = rw a.moves.batch fare.1;
     }
 
@@ -78,13 +78,13 @@ module _ (c : ℕ) (command : Command) (first begun : CommandProgress) (old mid 
     by_reason why.HasBatch a = ended why.HasBatch a
 
 -- the one step of a command that isn't a scan
-pub one_done : {c nodes : ℕ} {command : Command} {begun : CommandProgress} {old : Fronts} (new : Fronts) (result : Result Reply CellFault) → HoldsCaller old c → IsCommandFor nodes command → IsReady (old.batches c command.node) begun → is_scan command.op ≡ false → StepDone c command.node (next_step command.op begun) old new result → Comes begun result (Proceeds c command begun old new)
+pub one_done : {c nodes : ℕ} {command : Command} {begun : CommandProgress} {old : Fronts} (new : Fronts) (result : Result Reply CellFault) → HoldsCaller old c → IsWorkFor nodes command → IsReady (old.batches c command.node) begun → is_scan command.op ≡ false → StepDone c command.node (next_step command.op begun) old new result → Comes begun result (Proceeds c command begun old new)
 one_done {c} {nodes} {command} {begun} {old} new (Ok reply) has for ready one a =
     subst (Proceeds c command begun old new) (one_ends command.op begun (Ok reply) one) (proceeds_more c command begun begun old old new (Ok reply) has for.fits (goes_refl c old) (proceeds_none c command begun old ready) a)
 one_done {c} {nodes} {command} {begun} {old} new (Err fault) has for ready one done = fault_comes c command begun begun old old new has for.fits (goes_refl c old) (proceeds_none c command begun old ready) fault done
 
 -- a step of a scan
-module _ {c n nodes : ℕ} {command : Command} {first begun : CommandProgress} {old mid : Fronts} (step : Step) (new : Fronts) (has : HoldsCaller old c) (for : IsCommandFor nodes command) (is : command.op ≡ op.Scan n) (at : step ≡ next_step (op.Scan n) begun) (g : Goes c old mid) (p : Proceeds c command first old mid (On begun)) where
+module _ {c n nodes : ℕ} {command : Command} {first begun : CommandProgress} {old mid : Fronts} (step : Step) (new : Fronts) (has : HoldsCaller old c) (for : IsWorkFor nodes command) (is : command.op ≡ op.Scan n) (at : step ≡ next_step (op.Scan n) begun) (g : Goes c old mid) (p : Proceeds c command first old mid (On begun)) where
   next : step ≡ next_step command.op begun
   next = at ∙ ap (λ o. next_step o begun) (sym is)
 

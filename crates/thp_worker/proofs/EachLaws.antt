@@ -3,7 +3,7 @@ use Rattle.std.proofs.Common.{◌≡◌, ◌∙◌, ◌++◌, ◌+◌, ◌<◌, 
 use Rattle.std.proofs.lemmas.List.{append-nil, length-map}
 use Rattle.std.proofs.lemmas.List.Elements.{All-nil, All-cons, All-head, All-tail}
 use Rattle.std.proofs.lemmas.Option.{slice_get-get_or}
-use Rattle.thp_worker.specs.Prelude.{HoldsAllCallers, IsSplit, CanJoin, IsJoined, Held, keeping_node, KeepsNode, cell_in, shape_in, front_in, batch_in, fronts_of, IsOf, Agree, IsCut, IsOfAll, low_part, high_part, Adjoins, IsJoint, EachAdjoins, EachJoint}
+use Rattle.thp_worker.specs.Prelude.{HoldsAllCallers, AreFrontsSplit, CanJoin, AreFrontsJoined, Held, keeping_node, KeepsNode, cell_in, shape_in, front_in, batch_in, fronts_of, IsOf, Agree, IsCut, IsOfAll, low_part, high_part, Adjoins, IsJoint, EachAdjoins, EachJoint}
 use Rattle.thp_history.specs.Prelude.{History, events_of, IsLegal}
 use Rattle.thp_cell.specs.Prelude.{PassState}
 use Rattle.thp_worker.proofs.PartLaws.{lower_open, upper_open}
@@ -70,7 +70,7 @@ module _ (callers first end at : ℕ) (held : List Held) (agree : Agree callers 
     each = of_each (IsOf callers first end) (IsOf callers at end) (high_part at) held (λ h of. record { callers_are = of.callers_are; first_is = refl; end_is = of.end_is }) agree.each;
   }
 
-  pub split_fronts : first < at → IsSplit at (fronts_of callers first end held) (fronts_of callers first at (map (low_part at) held)) (fronts_of callers at end (map (high_part at) held))
+  pub split_fronts : first < at → AreFrontsSplit at (fronts_of callers first end held) (fronts_of callers first at (map (low_part at) held)) (fronts_of callers at end (map (high_part at) held))
   split_fronts after = record {
     left = record {
       same = record {
@@ -152,7 +152,7 @@ module _ (callers first end callers' first' end' : ℕ) (ls rs : List Held) (lef
           ls rs hs j n (λ y is. left.each n y is) (λ y is. right.each n y is) h e;
     }
 
-    pub join_fronts : IsJoined (fronts_of callers first end ls) (fronts_of callers' first' end' rs) (fronts_of callers first end' hs)
+    pub join_fronts : AreFrontsJoined (fronts_of callers first end ls) (fronts_of callers' first' end' rs) (fronts_of callers first end' hs)
     join_fronts = record {
       same = record {
         cells = joint_cells ls rs hs j;

@@ -2,7 +2,7 @@
 use Rattle.std.proofs.Common.{◌≡◌, ◌∙◌, ◌++◌, ◌+◌, ◌<◌, ◌≤◌, ap, ℕ, Bool, List, [], ◌∷◌, get_or, length, sym, subst, inl, inr, arith, append_assoc, length-append, Option, Some, None, slice_get}
 use Rattle.thp_history.specs.Prelude.{History, events_of, IsLegal}
 use Rattle.thp_script.specs.declared.script.Command.{Command}
-use Rattle.thp_worker.specs.Prelude.{Answer, Rest, SectionOutcome, CommandProgress, Fronts, HoldsCaller, Goes, Grows, SameNodes, Made, Steps, Works, WorksTo, Begins, Ends, IsNext, batches_after, progress_of, steps_of, KnowsOf, IsSplit, CanJoin, IsJoined, AllWork, CanRun, RangeDone}
+use Rattle.thp_worker.specs.Prelude.{Answer, Rest, SectionOutcome, CommandProgress, Fronts, HoldsCaller, Goes, Grows, SameNodes, Made, Steps, Works, WorksTo, Begins, Ends, IsNext, batches_after, progress_of, steps_of, KnowsOf, AreFrontsSplit, CanJoin, AreFrontsJoined, AllWork, CanRun, RangeDone}
 use Rattle.thp_worker.proofs.OpenLaws.{known_as}
 use Rattle.thp_worker.proofs.StepLaws.{steps_stay}
 
@@ -104,12 +104,12 @@ unfolding AllWork
 ran_one c old new v ws w can goes works is = grind arith
 
 -- the halves may run
-module _ (f l r : Fronts) (at first : ℕ) (low high : List (List Command)) (can : CanRun f first (low ++ high)) (split : IsSplit at f l r) (is : at ≡ first + length low) where
+module _ (f l r : Fronts) (at first : ℕ) (low high : List (List Command)) (can : CanRun f first (low ++ high)) (split : AreFrontsSplit at f l r) (is : at ≡ first + length low) where
   module _ (l' r' : Fronts) (ws xs : List SectionOutcome) (a : RangeDone first l l' low ws) (b : RangeDone at r r' high xs) where
     pub can_join : CanJoin l' r'
     can_join = grind (arith, same_nodes_trans, same_nodes_sym)
 
-    module _ (j : Fronts) (joined : IsJoined l' r' j) where
+    module _ (j : Fronts) (joined : AreFrontsJoined l' r' j) where
       knows_other : (c : ℕ) → HoldsCaller f c → c < first → KnowsOf c f j
       knows_other c has lt =
           let has-l : HoldsCaller l c = record { low = omega (arith, has.low, split.first); high = omega (arith, lt, split.middle.0, is) } in

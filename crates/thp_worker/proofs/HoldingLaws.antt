@@ -17,11 +17,11 @@ use Rattle.thp_history.specs.declared.page_call.Done.{Done}
 use Rattle.thp_node.specs.declared.answers.Tried.{Tried}
 use Rattle.thp_node.specs.declared.answers.BackReply.{BackReply}
 use Rattle.thp_node.specs.Prelude.{BatchState, IsInFront, rest}
-use Rattle.thp_cell.specs.Prelude.{IsOther, at_front, BatchesStay, OtherBatchesStay, Called, Failed, Follows, DidOne, DidAlloc, DidLose, DidTake, DidTry, DidPutBack, PassState, HasCaller}
+use Rattle.thp_cell.specs.Prelude.{IsOther, at_front, BatchesStay, OtherBatchesStay, Called, Failed, Follows, DidOne, SaysAlloc, DidLose, DidTake, DidTry, DidPutBack, PassState, HasCaller}
 use Rattle.thp_cell.specs.declared.fault.CellFault.{CellFault}
 use Rattle.thp_cell.specs.declared.fault.CellFault.TheVariants.{Refused}
 use Rattle.thp_script.specs.declared.script.Op.{Op}
-use Rattle.thp_worker.specs.Prelude.{NodeCall, Step, Take, SplitNext, PutBack, Reply, call_events, node_call_of, Open, Reaction, Does, DoesCall, step_events, open_of, step_refusal, refusal_of_call, Held, IsHeld, IsShut, Acts, HeldAnswered, HeldDone, batch_of, open_in, unit_reply, loss_reply, page_reply}
+use Rattle.thp_worker.specs.Prelude.{NodeCall, Step, Take, SplitNext, PutBack, Reply, call_events, node_call_of, Open, Reaction, Does, DoesCall, step_events, open_of, step_refusal, refusal_of_call, Held, IsHolding, IsShut, Acts, HeldAnswered, HeldDone, batch_of, open_in, unit_reply, loss_reply, page_reply}
 use Rattle.thp_worker.specs.declared.steps.NodeCall.TheVariants as node
 use Rattle.thp_worker.specs.declared.steps.Step.TheVariants as steps
 use Rattle.thp_worker.specs.declared.reply.Reply.TheVariants as reply
@@ -46,7 +46,7 @@ never_memory s h c x = grind (arith, never_call, never)
 
 -- ---- the invariant
 
-pub held_stays : (cell : TableId) (p q : PassState) (bs : List (Option BatchState)) → IsHeld cell p bs → q ≡ at_front p q.front → BatchesStay p q → IsHeld cell q bs
+pub held_stays : (cell : TableId) (p q : PassState) (bs : List (Option BatchState)) → IsHolding cell p bs → q ≡ at_front p q.front → BatchesStay p q → IsHolding cell q bs
 held_stays cell p q bs held same stay = grind (arith, slice_get_within)
 
 -- ---- callers without an open batch
@@ -57,7 +57,7 @@ none_there bs none k b is =
     absurd (cc)
 
 -- the invariant of a holder whose callers have no open batch
-pub held_shut : (cell : TableId) (p : PassState) (bs : List (Option BatchState)) → p.cell ≡ cell → p.first + length bs ≡ p.end → All (λ (b : Option BatchState). b ≡ None) bs → IsHeld cell p bs
+pub held_shut : (cell : TableId) (p : PassState) (bs : List (Option BatchState)) → p.cell ≡ cell → p.first + length bs ≡ p.end → All (λ (b : Option BatchState). b ≡ None) bs → IsHolding cell p bs
 held_shut cell p bs same places none = record { cell_is = same; callers = places; each = λ k b is. absurd (none_there bs none k b is) }
 
 none_in : (x : Option (Option BatchState)) → ((b : BatchState) → x ≡ Some (Some b) → ⊥) → open_in x ≡ None
@@ -110,7 +110,7 @@ unfolding Does
 does_call s h c o k call batch own answer e does = rw (call, e) (does, refl)
 
 -- a page was allocated
-pub alloc_done : (o : Op) → node_call_of o ≡ node.Alloc → (p q : PassState) (bs : List (Option BatchState)) (c : ℕ) (page : ℕ) → q ≡ at_front p q.front → Called p q c (DidAlloc p.shape c page) → HeldAnswered c (steps.One o) (record { pass = p; batches = bs }) (record { pass = q; batches = bs }) (Ok (reply.Page page))
+pub alloc_done : (o : Op) → node_call_of o ≡ node.Alloc → (p q : PassState) (bs : List (Option BatchState)) (c : ℕ) (page : ℕ) → q ≡ at_front p q.front → Called p q c (SaysAlloc p.shape c page) → HeldAnswered c (steps.One o) (record { pass = p; batches = bs }) (record { pass = q; batches = bs }) (Ok (reply.Page page))
 alloc_done o is p q bs c page same r = grind (arith, held_called, does_call)
 
 pub count_done : (o : Op) → node_call_of o ≡ node.Count → (p q : PassState) (bs : List (Option BatchState)) (c n : ℕ) → Follows p q → n ≡ length (queue q.shape q.front) → HeldAnswered c (steps.One o) (record { pass = p; batches = bs }) (record { pass = q; batches = bs }) (Ok (reply.Count n))
@@ -127,11 +127,11 @@ pub call_failed : (o : Op) (k : NodeCall) → node_call_of o ≡ k → (p q : Pa
 call_failed o k is p q bs c fault same failed = grind (arith, held_failed, does_refused)
 
 -- an allocation, done or not
-pub alloc_told : (o : Op) → node_call_of o ≡ node.Alloc → (p q : PassState) (bs : List (Option BatchState)) (c : ℕ) (r : Result ℕ CellFault) → q ≡ at_front p q.front → IfOk r (λ page. Called p q c (DidAlloc p.shape c page)) → IfErr r (Failed p q (refusal_of_call q.shape q.front node.Alloc) 1)
+pub alloc_reported : (o : Op) → node_call_of o ≡ node.Alloc → (p q : PassState) (bs : List (Option BatchState)) (c : ℕ) (r : Result ℕ CellFault) → q ≡ at_front p q.front → IfOk r (λ page. Called p q c (SaysAlloc p.shape c page)) → IfErr r (Failed p q (refusal_of_call q.shape q.front node.Alloc) 1)
     → HeldDone c (steps.One o) (record { pass = p; batches = bs }) (record { pass = q; batches = bs }) (page_reply r)
-alloc_told o is p q bs c x same called failed = grind (arith, alloc_done, call_failed)
+alloc_reported o is p q bs c x same called failed = grind (arith, alloc_done, call_failed)
 
--- a call that tells nothing
+-- a call that reports nothing
 pub unit_done : (o : Op) (k : NodeCall) → node_call_of o ≡ k → (p q : PassState) (bs : List (Option BatchState)) (c : ℕ) (w : What) (r : Result (Unit {0}) CellFault) (call : Call) → q ≡ at_front p q.front → OnOk r (Called p q c (DidOne p.shape call c w)) → IfErr r (Failed p q (refusal_of_call q.shape q.front k) (call_events k))
     → ((s : Shape) (h : History) → refusal_of_call s h k ≡ refusal s h call) → ((s : Shape) (h : History) (own : List Event) → own ≡ by c w ∷ [] → DoesCall s h c k own (Ok reply.Unit))
     → HeldDone c (steps.One o) (record { pass = p; batches = bs }) (record { pass = q; batches = bs }) (unit_reply r)
@@ -178,7 +178,7 @@ abbrev pub IsFor : History → ℕ → Option BatchState → Type 0
 IsFor h c None = Unit {0}
 IsFor h c (Some b) = (b.caller ≡ c) × IsInFront h b
 
-pub held_set : (cell : TableId) (p q : PassState) (bs : List (Option BatchState)) (c place : ℕ) (x : Option BatchState) → IsHeld cell p bs → q ≡ at_front p q.front → OtherBatchesStay c p q → place + p.first ≡ c → place < length bs → IsFor q.front c x → IsHeld cell q (set bs place x)
+pub held_set : (cell : TableId) (p q : PassState) (bs : List (Option BatchState)) (c place : ℕ) (x : Option BatchState) → IsHolding cell p bs → q ≡ at_front p q.front → OtherBatchesStay c p q → place + p.first ≡ c → place < length bs → IsFor q.front c x → IsHolding cell q (set bs place x)
 held_set cell p q bs c place x held same stay at lt for =
     let first : q.first ≡ p.first = ap (λ (x : PassState). x.first) same in
     let end : q.end ≡ p.end = ap (λ (x : PassState). x.end) same in
@@ -278,11 +278,11 @@ back_does s h c b r own caller d = (rw caller at d.recorded, rw (d.answer, calle
 -- ---- the four kinds of step, as the code makes them
 
 -- the place of one of the pass's callers among the batches
-pub place_at : {cell : TableId} {p : PassState} {bs : List (Option BatchState)} {h : Held} {c first : ℕ} → IsHeld cell p bs → h ≡ record { pass = p; batches = bs } → HasCaller h.pass c → first ≡ p.first → ((c - first) + p.first ≡ c) × (c - first < length bs) × HasCaller p c
+pub place_at : {cell : TableId} {p : PassState} {bs : List (Option BatchState)} {h : Held} {c first : ℕ} → IsHolding cell p bs → h ≡ record { pass = p; batches = bs } → HasCaller h.pass c → first ≡ p.first → ((c - first) + p.first ≡ c) × (c - first < length bs) × HasCaller p c
 place_at held is its first = let has = rw is at its in (omega (arith, has.from, first), omega (arith, has.from, has.below, held.callers, first), has)
 
 -- a batch at caller c's place is c's, and in front of its flight
-pub mine : {cell : TableId} {p : PassState} {bs : List (Option BatchState)} {c : ℕ} {b : BatchState} (place : ℕ) → IsHeld cell p bs → place + p.first ≡ c → HasCaller p c → slice_get bs place ≡ Some (Some b) → (b.caller ≡ c) × IsInFront p.front b × HasCaller p b.caller
+pub mine : {cell : TableId} {p : PassState} {bs : List (Option BatchState)} {c : ℕ} {b : BatchState} (place : ℕ) → IsHolding cell p bs → place + p.first ≡ c → HasCaller p c → slice_get bs place ≡ Some (Some b) → (b.caller ≡ c) × IsInFront p.front b × HasCaller p b.caller
 mine {cell} {p} {bs} {c} {b} place held at has is = let e = held.each place b is in let own : b.caller ≡ c = omega (arith, e.0, at) in (own, e.1, rw own has)
 
 -- there is no batch, and nothing happens
@@ -339,21 +339,21 @@ pub others_stay : (p q : PassState) (c : ℕ) → BatchesStay p q → OtherBatch
 others_stay p q c stay b has other front = stay b has front
 
 -- the invariant after a batch was taken out and one was put there
-pub held_again : (cell : TableId) (p q : PassState) (bs new : List (Option BatchState)) (c place : ℕ) (b : BatchState) → IsHeld cell p bs → q ≡ at_front p q.front → BatchesStay p q → place + p.first ≡ c → place < length bs → new ≡ set (set bs place None) place (Some b) → b.caller ≡ c → IsInFront q.front b → IsHeld cell q new
+pub held_again : (cell : TableId) (p q : PassState) (bs new : List (Option BatchState)) (c place : ℕ) (b : BatchState) → IsHolding cell p bs → q ≡ at_front p q.front → BatchesStay p q → place + p.first ≡ c → place < length bs → new ≡ set (set bs place None) place (Some b) → b.caller ≡ c → IsInFront q.front b → IsHolding cell q new
 held_again cell p q bs new c place b held same stay at lt now caller front =
     rw (now, set_twice bs place None (Some b)) (held_set cell p q bs c place (Some b) held same (others_stay p q c stay) at lt (caller, front))
 
 -- the invariant after a batch went back
-pub held_gone : (cell : TableId) (p q : PassState) (bs new : List (Option BatchState)) (c place : ℕ) → IsHeld cell p bs → q ≡ at_front p q.front → BatchesStay p q → place + p.first ≡ c → place < length bs → new ≡ set bs place None → IsHeld cell q new
+pub held_gone : (cell : TableId) (p q : PassState) (bs new : List (Option BatchState)) (c place : ℕ) → IsHolding cell p bs → q ≡ at_front p q.front → BatchesStay p q → place + p.first ≡ c → place < length bs → new ≡ set bs place None → IsHolding cell q new
 held_gone cell p q bs new c place held same stay at lt now = rw now (held_set cell p q bs c place None held same (others_stay p q c stay) at lt tt)
 
 -- the invariant after a take
-pub held_taken : (cell : TableId) (p q : PassState) (bs new : List (Option BatchState)) (c place : ℕ) (b : BatchState) → IsHeld cell p bs → q ≡ at_front p q.front → OtherBatchesStay c p q → place + p.first ≡ c → place < length bs → new ≡ set bs place (Some b) → b.caller ≡ c → IsInFront q.front b → IsHeld cell q new
+pub held_taken : (cell : TableId) (p q : PassState) (bs new : List (Option BatchState)) (c place : ℕ) (b : BatchState) → IsHolding cell p bs → q ≡ at_front p q.front → OtherBatchesStay c p q → place + p.first ≡ c → place < length bs → new ≡ set bs place (Some b) → b.caller ≡ c → IsInFront q.front b → IsHolding cell q new
 held_taken cell p q bs new c place b held same stay at lt now caller front = rw now (held_set cell p q bs c place (Some b) held same stay at lt (caller, front))
 
 -- and after one that failed: there was no batch of the caller
-pub held_untaken : (cell : TableId) (p q : PassState) (bs : List (Option BatchState)) (c place : ℕ) → IsHeld cell p bs → q ≡ at_front p q.front → OtherBatchesStay c p q → place + p.first ≡ c → place < length bs → slice_get bs place ≡ Some None → IsHeld cell q bs
-held_untaken cell p q bs c place held same stay at lt is = subst (IsHeld cell q) (set_same bs place None is) (held_set cell p q bs c place None held same stay at lt tt)
+pub held_untaken : (cell : TableId) (p q : PassState) (bs : List (Option BatchState)) (c place : ℕ) → IsHolding cell p bs → q ≡ at_front p q.front → OtherBatchesStay c p q → place + p.first ≡ c → place < length bs → slice_get bs place ≡ Some None → IsHolding cell q bs
+held_untaken cell p q bs c place held same stay at lt is = subst (IsHolding cell q) (set_same bs place None is) (held_set cell p q bs c place None held same stay at lt tt)
 
 pub taken_by : (p q : PassState) (c n : ℕ) (b : BatchState) → Called p q c (DidTake p.shape c n b) → b.caller ≡ c
 taken_by p q c n b r = ap (λ (x : BatchState). x.caller) r.says.batch

@@ -29,17 +29,17 @@ pushed old new answers last same there =
     rw (map-append (answer_in new) answers (last ∷ []), answers_stay old new answers same there) refl
 
 -- a log with one more stored answer
-pub log_pushed : (are : Answers) (told now : List Answer) (answer : Answer) (short more : Vec ShortAnswer Global) (long longer : Vec Reply Global) (count room : ℕ) (last : ShortAnswer)
-    → IsLog are told short long count room → are ≡ Kept → now ≡ told ++ answer ∷ [] → more.items ≡ short.items ++ last ∷ [] → vec_len more ≡ vec_len short + 1 → vec_capacity more ≡ vec_capacity short
+pub log_pushed : (are : Answers) (reported now : List Answer) (answer : Answer) (short more : Vec ShortAnswer Global) (long longer : Vec Reply Global) (count room : ℕ) (last : ShortAnswer)
+    → IsLog are reported short long count room → are ≡ Kept → now ≡ reported ++ answer ∷ [] → more.items ≡ short.items ++ last ∷ [] → vec_len more ≡ vec_len short + 1 → vec_capacity more ≡ vec_capacity short
     → StandOn long.items longer.items → is_there (length longer.items) last.reply → answer ≡ answer_in longer.items last → vec_len longer ≤ vec_len long + 1 → vec_capacity longer ≡ vec_capacity long
     → IsLog are now more longer count room
-log_pushed are told now answer short more long longer count room last old kept is items len cap stand here same one long-cap =
-    let all = length-append told (answer ∷ []) in
+log_pushed are reported now answer short more long longer count room last old kept is items len cap stand here same one long-cap =
+    let all = length-append reported (answer ∷ []) in
     record {
       answers = rw (kept, is, items)
           (pushed long.items longer.items short.items last stand old.there
           ∙ ap (λ l. l ++ answer_in longer.items last ∷ []) (rw kept at old.answers)
-          ∙ ap (λ a. told ++ a ∷ []) (sym same));
+          ∙ ap (λ a. reported ++ a ∷ []) (sym same));
       there = rw items (All-push (λ (a : ShortAnswer). is_there (length longer.items) a.reply) short.items last (λ k d lt. (stand (get_or short.items k d).reply (old.there k d lt)).0) here);
       kept = λ k. let was = old.kept k in rw is (omega (arith, len, was, all));
       counted = λ c. absurd cc;

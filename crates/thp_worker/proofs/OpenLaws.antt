@@ -13,7 +13,7 @@ use Rattle.thp_node.specs.declared.answers.Tried.TheVariants as tried
 use Rattle.thp_script.specs.declared.script.Command.{Command}
 use Rattle.thp_script.specs.declared.script.Op.{Op}
 use Rattle.thp_script.specs.declared.script.Op.TheVariants as op
-use Rattle.thp_worker.specs.Prelude.{Reply, Step, One, Take, SplitNext, PutBack, node_call_of, Open, Reaction, Does, DoesCall, Unless, answer_of, refusal_of_call, StepAnswer, TurnsOut, first_step, answered_put_back, is_scan, took, answered_try, is_open, leaves_open, marked, OpenOn, Made, IsMade, Carries, batches_after, told_by, with_batch}
+use Rattle.thp_worker.specs.Prelude.{Reply, Step, One, Take, SplitNext, PutBack, node_call_of, Open, Reaction, Does, DoesCall, Unless, answer_of, refusal_of_call, StepAnswer, TurnsOut, first_step, answered_put_back, is_scan, took, answered_try, is_open, leaves_open, marked, OpenOn, Made, IsMade, Carries, batches_after, step_results, with_batch}
 use Rattle.thp_worker.specs.declared.reply.Reply.TheVariants as reply
 use Rattle.thp_worker.proofs.StepLaws.{after_put_back, batches_elsewhere}
 
@@ -58,50 +58,50 @@ module _ (shape : ℕ → Shape) (history : ℕ → History) (c n : ℕ) where
   abbrev AllHere : List Made → Type 0
   AllHere ms = All (λ (m : Made). m.node ≡ n) ms
 
-  single_opens : (bs : ℕ → Option Open) (ms : List Made) (step : Step) (answer : Reaction) → AllHere ms → All (IsMade shape history c) ms → Carries bs ms → told_by ms ≡ record { step = step; answer = answer } ∷ [] → is_open (batches_after bs ms n) ≡ step_opens step answer (is_open (bs n))
+  single_opens : (bs : ℕ → Option Open) (ms : List Made) (step : Step) (answer : Reaction) → AllHere ms → All (IsMade shape history c) ms → Carries bs ms → step_results ms ≡ record { step = step; answer = answer } ∷ [] → is_open (batches_after bs ms n) ≡ step_opens step answer (is_open (bs n))
   unfolding batches_after Carries
-  single_opens bs [] step answer on made carries told = absurd (cc)
-  single_opens bs (m ∷ []) step answer on made carries told =
+  single_opens bs [] step answer on made carries reported = absurd (cc)
+  single_opens bs (m ∷ []) step answer on made carries reported =
       let here : m.node ≡ n = All-head (λ (x : Made). x.node ≡ n) m [] on in
-      let is : m.told ≡ record { step = step; answer = answer } = cc in
+      let is : m.reported ≡ record { step = step; answer = answer } = cc in
       let does = (All-head (IsMade shape history c) m [] made).does in
-      let opens = does_open (shape m.node) (take m.before (history m.node)) c m.batch m.told.step m.own m.told.answer m.after does in
+      let opens = does_open (shape m.node) (take m.before (history m.node)) c m.batch m.reported.step m.own m.reported.answer m.after does in
       let said : is_open m.after ≡ step_opens step answer (is_open m.batch) = subst (λ (t : StepAnswer). is_open m.after ≡ step_opens t.step t.answer (is_open m.batch)) is opens in
       let batch : m.batch ≡ bs n = carries.0 ∙ ap bs here in
       rw (eq-eqb n m.node (sym here)) (said ∙ ap (λ b. step_opens step answer (is_open b)) batch)
-  single_opens bs (m ∷ l ∷ ms) step answer on made carries told = absurd (cc)
+  single_opens bs (m ∷ l ∷ ms) step answer on made carries reported = absurd (cc)
 
-  first_shut : (bs : ℕ → Option Open) (ms : List Made) (k t : ℕ) (rest : List StepAnswer) → AllHere ms → All (IsMade shape history c) ms → Carries bs ms → told_by ms ≡ took k t ∷ rest → bs n ≡ None
+  first_shut : (bs : ℕ → Option Open) (ms : List Made) (k t : ℕ) (rest : List StepAnswer) → AllHere ms → All (IsMade shape history c) ms → Carries bs ms → step_results ms ≡ took k t ∷ rest → bs n ≡ None
   unfolding Carries
-  first_shut bs [] k t rest on made carries told = absurd (cc)
-  first_shut bs (m ∷ ms) k t rest on made carries told =
+  first_shut bs [] k t rest on made carries reported = absurd (cc)
+  first_shut bs (m ∷ ms) k t rest on made carries reported =
       let here : m.node ≡ n = All-head (λ (x : Made). x.node ≡ n) m ms on in
-      let is : m.told ≡ took k t = cc in
+      let is : m.reported ≡ took k t = cc in
       let does = (All-head (IsMade shape history c) m ms made).does in
       let took-it : Does (shape m.node) (take m.before (history m.node)) c m.batch (Take k) m.own (Ok (reply.Taken t)) m.after = subst (λ (x : StepAnswer). Does (shape m.node) (take m.before (history m.node)) c m.batch x.step m.own x.answer m.after) is does in
       sym (carries.0 ∙ ap bs here) ∙ took_none (shape m.node) (take m.before (history m.node)) c k t m.batch m.own m.after took-it
 
-  last_shut : (bs : ℕ → Option Open) (ms : List Made) (told : List StepAnswer) (back : BackReply) → AllHere ms → All (IsMade shape history c) ms → told_by ms ≡ told ++ answered_put_back back ∷ [] → batches_after bs ms n ≡ None
+  last_shut : (bs : ℕ → Option Open) (ms : List Made) (reported : List StepAnswer) (back : BackReply) → AllHere ms → All (IsMade shape history c) ms → step_results ms ≡ reported ++ answered_put_back back ∷ [] → batches_after bs ms n ≡ None
   unfolding batches_after
   last_shut bs [] [] back on made is = absurd (cc)
-  last_shut bs [] (t ∷ told) back on made is = absurd (cc)
+  last_shut bs [] (t ∷ reported) back on made is = absurd (cc)
   last_shut bs (m ∷ []) [] back on made is =
       let here : m.node ≡ n = All-head (λ (x : Made). x.node ≡ n) m [] on in
-      let same : m.told ≡ answered_put_back back = cc in
+      let same : m.reported ≡ answered_put_back back = cc in
       let does = (All-head (IsMade shape history c) m [] made).does in
       let put : Does (shape m.node) (take m.before (history m.node)) c m.batch PutBack m.own (answered_put_back back).answer m.after = subst (λ (x : StepAnswer). Does (shape m.node) (take m.before (history m.node)) c m.batch x.step m.own x.answer m.after) same does in
       rw (eq-eqb n m.node (sym here)) (after_put_back (shape m.node) (take m.before (history m.node)) c m.batch m.own (answered_put_back back).answer m.after put)
   last_shut bs (m ∷ l ∷ ms) [] back on made is = absurd (cc)
-  last_shut bs (m ∷ ms) (t ∷ told) back on made is =
-      last_shut (with_batch bs m.node m.after) ms told back (All-tail (λ (x : Made). x.node ≡ n) m ms on) (All-tail (IsMade shape history c) m ms made) cc
+  last_shut bs (m ∷ ms) (t ∷ reported) back on made is =
+      last_shut (with_batch bs m.node m.after) ms reported back (All-tail (λ (x : Made). x.node ≡ n) m ms on) (All-tail (IsMade shape history c) m ms made) cc
 
   -- a command that was answered
-  pub opens_by : (o : Op) (answer : Reaction) (bs : ℕ → Option Open) (ms : List Made) → AllHere ms → All (IsMade shape history c) ms → Carries bs ms → TurnsOut o (told_by ms) answer → is_open (batches_after bs ms n) ≡ leaves_open o answer (is_open (bs n))
+  pub opens_by : (o : Op) (answer : Reaction) (bs : ℕ → Option Open) (ms : List Made) → AllHere ms → All (IsMade shape history c) ms → Carries bs ms → TurnsOut o (step_results ms) answer → is_open (batches_after bs ms n) ≡ leaves_open o answer (is_open (bs n))
   opens_by (op.Scan k) answer bs ms on made carries out =
       elim out [
         | inl done ↦
             let tries = map answered_try done.tries ++ answered_try tried.Done ∷ [] in
-            let all : told_by ms ≡ (took k done.taken ∷ tries) ++ answered_put_back done.back ∷ [] = done.steps in
+            let all : step_results ms ≡ (took k done.taken ∷ tries) ++ answered_put_back done.back ∷ [] = done.steps in
             let before : bs n ≡ None = first_shut bs ms k done.taken _ on made carries done.steps in
             let after : batches_after bs ms n ≡ None = last_shut bs ms (took k done.taken ∷ tries) done.back on made all in
             ap is_open (after ∙ sym before)
@@ -109,7 +109,7 @@ module _ (shape : ℕ → Shape) (history : ℕ → History) (c n : ℕ) where
       ]
   opens_by o answer bs ms on made carries out = single_opens bs ms (first_step o) answer on made carries out ∙ one_opens o answer (is_open (bs n)) refl
 
--- what is told behind a command that was answered
+-- what is reported behind a command that was answered
 module _ (nodes : ℕ) (opened : List Bool) (bs : ℕ → Option Open) (command : Command) (answer : Reaction) (ms : List Made) (known : OpenOn nodes opened bs) (lt : command.node < nodes) (on : All (λ (m : Made). m.node ≡ command.node) ms)
     (opens : is_open (batches_after bs ms command.node) ≡ leaves_open command.op answer (is_open (bs command.node))) where
   known_at : (n : ℕ) → n < nodes → (b : Bool) → (n == command.node) ≡ b → get_or (marked opened command answer) n false ≡ is_open (batches_after bs ms n)
@@ -153,7 +153,7 @@ known_none nodes opened bs is none = rw is (record { count = length-replicate no
     all_false (suc m) zero = refl
     all_false (suc m) (suc n) = all_false m n
 
--- what is told stays where the batches do
+-- what is reported stays where the batches do
 pub known_as : (nodes nodes' : ℕ) (opened : List Bool) (bs cs : ℕ → Option Open) → nodes' ≡ nodes → cs ≡ bs → OpenOn nodes opened bs → OpenOn nodes' opened cs
 known_as nodes nodes' opened bs cs same is known = rw (same, is) known
 

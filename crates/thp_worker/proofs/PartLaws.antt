@@ -5,7 +5,7 @@ use Rattle.std.proofs.lemmas.Option.{slice_get_within}
 use Rattle.atomic_table.specs.Seated.{TableId}
 use Rattle.thp_node.specs.Prelude.{BatchState}
 use Rattle.thp_cell.specs.Prelude.{BatchesStay, below, from, IsJoined, PassState}
-use Rattle.thp_worker.specs.Prelude.{Held, IsHeld, OpenStay, batch_of, lower_part, upper_part}
+use Rattle.thp_worker.specs.Prelude.{Held, IsHolding, OpenStay, batch_of, lower_part, upper_part}
 
 module _ {A : Type 0} where
   slice_get-take : (xs : List A) (k i : ℕ) (x : A) → slice_get (take k xs) i ≡ Some x → slice_get xs i ≡ Some x
@@ -40,28 +40,28 @@ module _ {A : Type 0} where
   slice_get-append (y ∷ xs) ys zero x e = inl e
   slice_get-append (y ∷ xs) ys (suc i) x e = elim (slice_get-append xs ys i x e) [ inl l ↦ inl l | inr r ↦ inr (r.0, omega (arith, r.1), r.2) ]
 
-pub held_below : (cell : TableId) (p : PassState) (bs : List (Option BatchState)) (at k : ℕ) → IsHeld cell p bs → k + p.first ≡ at → at ≤ p.end → IsHeld cell (below p at) (take k bs)
+pub held_below : (cell : TableId) (p : PassState) (bs : List (Option BatchState)) (at k : ℕ) → IsHolding cell p bs → k + p.first ≡ at → at ≤ p.end → IsHolding cell (below p at) (take k bs)
 held_below cell p bs at k held is le = record {
   cell_is = held.cell_is;
   callers = omega (arith, length-take k bs, held.callers, is, le);
   each = λ i b e. held.each i b (slice_get-take bs k i (Some b) e);
 }
 
-pub held_from : (cell : TableId) (p : PassState) (bs : List (Option BatchState)) (at k : ℕ) → IsHeld cell p bs → k + p.first ≡ at → at ≤ p.end → IsHeld cell (from p at) (drop k bs)
+pub held_from : (cell : TableId) (p : PassState) (bs : List (Option BatchState)) (at k : ℕ) → IsHolding cell p bs → k + p.first ≡ at → at ≤ p.end → IsHolding cell (from p at) (drop k bs)
 held_from cell p bs at k held is le = record {
   cell_is = held.cell_is;
   callers = omega (arith, length-drop k bs, held.callers, is, le);
   each = λ i b e. let was = held.each (k + i) b (sym (slice_get-drop bs k i) ∙ e) in (omega (arith, was.0, is), was.1);
 }
 
-pub held_joined : (cell : TableId) (p q r : PassState) (bs cs all : List (Option BatchState)) → IsHeld cell p bs → IsHeld q.cell q cs → IsJoined p q r → BatchesStay p r → BatchesStay q r → p.end ≡ q.first → all ≡ bs ++ cs → IsHeld cell r all
+pub held_joined : (cell : TableId) (p q r : PassState) (bs cs all : List (Option BatchState)) → IsHolding cell p bs → IsHolding q.cell q cs → IsJoined p q r → BatchesStay p r → BatchesStay q r → p.end ≡ q.first → all ≡ bs ++ cs → IsHolding cell r all
 held_joined cell p q r bs cs all left right j left-stay right-stay adjacent is = grind (arith, length-append, slice_get-append, slice_get_within)
 
 -- the open batches of the callers of both are those of the joint pass
-pub joined_left_open : (cell : TableId) (p q r : PassState) (bs cs all : List (Option BatchState)) → IsHeld cell p bs → IsJoined p q r → all ≡ bs ++ cs → OpenStay (record { pass = p; batches = bs }) (record { pass = r; batches = all })
+pub joined_left_open : (cell : TableId) (p q r : PassState) (bs cs all : List (Option BatchState)) → IsHolding cell p bs → IsJoined p q r → all ≡ bs ++ cs → OpenStay (record { pass = p; batches = bs }) (record { pass = r; batches = all })
 joined_left_open cell p q r bs cs all held j is c has = grind (arith, nat_le, nat_tests, slice_get-append_left)
 
-pub joined_right_open : (cell : TableId) (p q r : PassState) (bs cs all : List (Option BatchState)) → IsHeld cell p bs → IsJoined p q r → p.end ≡ q.first → all ≡ bs ++ cs → OpenStay (record { pass = q; batches = cs }) (record { pass = r; batches = all })
+pub joined_right_open : (cell : TableId) (p q r : PassState) (bs cs all : List (Option BatchState)) → IsHolding cell p bs → IsJoined p q r → p.end ≡ q.first → all ≡ bs ++ cs → OpenStay (record { pass = q; batches = cs }) (record { pass = r; batches = all })
 joined_right_open cell p q r bs cs all held j adjacent is c has = grind (arith, nat_le, nat_tests, slice_get-append_right)
 
 -- and those of a part are those that were

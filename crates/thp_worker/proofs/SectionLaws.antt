@@ -14,7 +14,7 @@ use Rattle.thp_history.specs.declared.refusal.Refusal.TheVariants as why
 use Rattle.thp_script.specs.declared.script.Command.{Command}
 use Rattle.thp_script.specs.declared.script.Op.{Op}
 use Rattle.thp_script.specs.declared.script.Op.TheVariants as op
-use Rattle.thp_worker.specs.Prelude.{Answer, Reply, Rest, CommandProgress, LogState, Open, Reaction, Fronts, Goes, CommandState, On, Ended, Comes, answer_of, by_cell, StepAnswer, IsProgressAfter, TurnsOut, no_progress, HasNoBatch, is_open, marked, Made, IsMade, Steps, Proceeds, told_by, Turn, IsTurn, command_of, steps_of, batches_after, put_back_on, closing_from, closing, answers_from, IsProgressOn, IsNext, Begins, Ends, PutsBack, Works, progress_of}
+use Rattle.thp_worker.specs.Prelude.{Answer, Reply, Rest, CommandProgress, LogState, Open, Reaction, Fronts, Goes, CommandState, On, Ended, Comes, answer_of, by_cell, StepAnswer, IsProgressAfter, TurnsOut, no_progress, HasNoBatch, is_open, marked, Made, IsMade, Steps, Proceeds, step_results, Turn, IsTurn, turn_command, steps_of, batches_after, put_back_on, closing_from, closing, answers_from, IsProgressOn, IsNext, Begins, Ends, PutsBack, Works, progress_of}
 use Rattle.thp_worker.proofs.CommandLaws.{cell_comes}
 use Rattle.thp_worker.proofs.OpenLaws.{carries_after, known_as, known_more, known_none, known_shut, marked_alike, opens_by}
 use Rattle.thp_worker.proofs.StepLaws.{steps_none, steps_then, goes_grows, grows_refl, grows_trans, batches_after-append, batches_elsewhere, closed_by}
@@ -88,9 +88,9 @@ module _ (c : ℕ) (old mid new : Fronts) (commands : List Command) (answers : L
       let turn : Turn = record { command = command; steps = b.made ++ p.made; answer = answer } in
       let st : Steps c old new ((steps_of b.turns ++ b.made) ++ p.made) = steps_then c old mid new (steps_of b.turns ++ b.made) p.made b.grows (goes_grows c mid new g) b.steps p.steps in
       let all : steps_of (b.turns ++ turn ∷ []) ++ [] ≡ (steps_of b.turns ++ b.made) ++ p.made = append-nil (steps_of (b.turns ++ turn ∷ [])) ∙ steps_of-push b.turns turn ∙ sym (append_assoc (steps_of b.turns) b.made p.made) in
-      let told : told_by (b.made ++ p.made) ≡ told_by b.made ++ told_by p.made = map-append (λ (m : Made). m.told) b.made p.made in
+      let reported : step_results (b.made ++ p.made) ≡ step_results b.made ++ step_results p.made = map-append (λ (m : Made). m.reported) b.made p.made in
       let on : All (λ (m : Made). m.node ≡ command.node) turn.steps = All-append (λ (m : Made). m.node ≡ command.node) b.made p.made next.on_node p.on_node in
-      let out : TurnsOut command.op (told_by turn.steps) answer = subst (λ (l : List StepAnswer). TurnsOut command.op l answer) (sym told) (p.turned (told_by b.made) next.begun) in
+      let out : TurnsOut command.op (step_results turn.steps) answer = subst (λ (l : List StepAnswer). TurnsOut command.op l answer) (sym reported) (p.turned (step_results b.made) next.begun) in
       let before = batches_after (old.batches c) (steps_of b.turns) in
       let whole : Steps c old new (steps_of b.turns ++ turn.steps) = subst (Steps c old new) (append_assoc (steps_of b.turns) b.made p.made) st in
       let len : length (b.turns ++ turn ∷ []) ≡ suc (length b.turns) = omega (arith, length-append b.turns (turn ∷ [])) in
@@ -101,7 +101,7 @@ module _ (c : ℕ) (old mid new : Fronts) (commands : List Command) (answers : L
         grows = grows_trans old mid new b.grows (goes_grows c mid new g);
         steps = subst (Steps c old new) (sym all) st;
         each = All-push IsTurn b.turns turn b.each (record { on_node = on; turns_out = out });
-        done = map-append command_of b.turns (turn ∷ []) ∙ ap (λ l. l ++ command ∷ []) b.done ∙ sym (take_one_more commands (length b.turns) command here) ∙ ap (λ n. take n commands) (sym len);
+        done = map-append turn_command b.turns (turn ∷ []) ∙ ap (λ l. l ++ command ∷ []) b.done ∙ sym (take_one_more commands (length b.turns) command here) ∙ ap (λ n. take n commands) (sym len);
         answered = sym (answers-push_first b.turns turn ∙ said);
         next = is_next_first (new.batches c) (slice_get commands (length (b.turns ++ turn ∷ [])));
         known = known_as old.nodes old.nodes (marked opened command answer) (batches_after before turn.steps) (batches_after (old.batches c) (steps_of (b.turns ++ turn ∷ []))) refl
@@ -114,10 +114,10 @@ module _ (c : ℕ) (old mid new : Fronts) (commands : List Command) (answers : L
   pub begins_stop : (more : CommandProgress) → Proceeds c command begun mid new (On more) → Begins c old new commands answers opened more
   begins_stop more p =
       let st : Steps c old new ((steps_of b.turns ++ b.made) ++ p.made) = steps_then c old mid new (steps_of b.turns ++ b.made) p.made b.grows (goes_grows c mid new g) b.steps p.steps in
-      let told : told_by (b.made ++ p.made) ≡ told_by b.made ++ told_by p.made = map-append (λ (m : Made). m.told) b.made p.made in
+      let reported : step_results (b.made ++ p.made) ≡ step_results b.made ++ step_results p.made = map-append (λ (m : Made). m.reported) b.made p.made in
       let on : IsProgressOn (new.batches c) command (b.made ++ p.made) more = record {
         on_node = All-append (λ (m : Made). m.node ≡ command.node) b.made p.made next.on_node p.on_node;
-        begun = subst (λ (l : List StepAnswer). IsProgressAfter command.op l more) (sym told) (p.turned (told_by b.made) next.begun);
+        begun = subst (λ (l : List StepAnswer). IsProgressAfter command.op l more) (sym reported) (p.turned (step_results b.made) next.begun);
         ready = p.ready;
       } in
       record {
@@ -133,9 +133,9 @@ module _ (c : ℕ) (old mid new : Fronts) (commands : List Command) (answers : L
       }
 
 -- the command that comes next was done, with what its node was called with and its reply
-pub begins_told : (c number : ℕ) (old mid new : Fronts) (commands : List Command) (answers : List Answer) (opened : List Bool) (begun more : CommandProgress) (command : Command) (called : Result (Unit {0}) CellFault) (said : Result (Unit {0}) Refusal) (reply : Reply) → slice_get commands number ≡ Some command → length answers ≡ number → Begins c old mid commands answers opened begun → Goes c mid new
+pub begins_reported : (c number : ℕ) (old mid new : Fronts) (commands : List Command) (answers : List Answer) (opened : List Bool) (begun more : CommandProgress) (command : Command) (called : Result (Unit {0}) CellFault) (said : Result (Unit {0}) Refusal) (reply : Reply) → slice_get commands number ≡ Some command → length answers ≡ number → Begins c old mid commands answers opened begun → Goes c mid new
     → command.node < mid.nodes → called ≡ by_cell said → (called ≡ Err (Refused why.OutOfMemory) → ⊥) → Comes more (answer_of called reply) (Proceeds c command begun mid new) → Begins c old new commands (answers ++ record { command = number; node = command.node; reply = answer_of said reply } ∷ []) (marked opened command said) no_progress
-begins_told c number old mid new commands answers opened begun more command called said reply at count b g lt is room p =
+begins_reported c number old mid new commands answers opened begun more command called said reply at count b g lt is room p =
     subst (λ (l : List Bool). Begins c old new commands (answers ++ record { command = number; node = command.node; reply = answer_of said reply } ∷ []) l no_progress) (sym (marked_alike opened command said reply))
     (subst (λ (k : ℕ). Begins c old new commands (answers ++ record { command = k; node = command.node; reply = answer_of said reply } ∷ []) (marked opened command (answer_of said reply)) no_progress) count
     (begins_more c old mid new commands answers opened begun command (rw count at) b g (answer_of said reply) lt (cell_comes more (Proceeds c command begun mid new) called said reply is room p)))
@@ -237,7 +237,7 @@ after_open bs node nodes lt below =
 pub closing_all : (bs : ℕ → Option Open) (nodes : ℕ) → ((k : ℕ) → k < nodes → bs k ≡ None) → closing nodes bs ≡ []
 closing_all bs nodes none = grind (arith, closing_none)
 
-no_steps : (ms : List Made) → told_by ms ≡ [] → ms ≡ []
+no_steps : (ms : List Made) → step_results ms ≡ [] → ms ≡ []
 no_steps [] e = refl
 no_steps (m ∷ ms) e = absurd (cc)
 
@@ -281,13 +281,13 @@ module _ (c n : ℕ) (old mid : Fronts) (commands : List Command) (answers : Lis
   room_for_one =
       let all = ap length e.closes in
       let one = ap length (first_open (mid.batches c) n old.nodes lt below is-open) in
-      omega (arith, all, one, e.count, length-map e.closed command_of, length-append (map command_of e.closed) (closing old.nodes (mid.batches c)), length-closing (batches_after (old.batches c) (steps_of e.turns)) 0 old.nodes)
+      omega (arith, all, one, e.count, length-map e.closed turn_command, length-append (map turn_command e.closed) (closing old.nodes (mid.batches c)), length-closing (batches_after (old.batches c) (steps_of e.turns)) 0 old.nodes)
 
   -- one batch more went back
   pub ends_more : (new : Fronts) (answer : Reaction) → Goes c mid new → PutsBack c n mid new (Ended answer) → Ends c old new commands answers (set opened n false) (back + 1)
   ends_more new answer g p =
       let shut : (k : ℕ) → k < suc n → new.batches c k ≡ None = λ k le. shut_below k le in
-      let closed-is : map command_of (e.closed ++ p.turn ∷ []) ≡ map command_of e.closed ++ put_back_on n ∷ [] = map-append command_of e.closed (p.turn ∷ []) ∙ ap (λ t. map command_of e.closed ++ t ∷ []) p.is in
+      let closed-is : map turn_command (e.closed ++ p.turn ∷ []) ≡ map turn_command e.closed ++ put_back_on n ∷ [] = map-append turn_command e.closed (p.turn ∷ []) ∙ ap (λ t. map turn_command e.closed ++ t ∷ []) p.is in
       let left : closing old.nodes (mid.batches c) ≡ put_back_on n ∷ closing old.nodes (new.batches c) =
       first_open (mid.batches c) n old.nodes lt below is-open ∙ ap (λ l. put_back_on n ∷ l) (sym (closing_same (mid.batches c) (new.batches c) (n + 1) (old.nodes - suc n) (λ k le. p.elsewhere k (λ same. absurd (omega (arith, le, same))))) ∙ sym (after_open (new.batches c) n old.nodes lt shut)) in
       let st = steps_then c old mid new (steps_of e.turns ++ steps_of e.closed) p.turn.steps e.grows (goes_grows c mid new g) e.steps p.steps in
@@ -301,7 +301,7 @@ module _ (c n : ℕ) (old mid : Fronts) (commands : List Command) (answers : Lis
         each_closed = All-push IsTurn e.closed p.turn e.each_closed p.turns;
         done = e.done;
         answered = e.answered;
-        closes = e.closes ∙ ap (λ l. map command_of e.closed ++ l) left ∙ sym (append_assoc (map command_of e.closed) (put_back_on n ∷ []) (closing old.nodes (new.batches c))) ∙ ap (λ l. l ++ closing old.nodes (new.batches c)) (sym closed-is);
+        closes = e.closes ∙ ap (λ l. map turn_command e.closed ++ l) left ∙ sym (append_assoc (map turn_command e.closed) (put_back_on n ∷ []) (closing old.nodes (new.batches c))) ∙ ap (λ l. l ++ closing old.nodes (new.batches c)) (sym closed-is);
         count = omega (arith, length-append e.closed (p.turn ∷ []), e.count);
         known = known_shut old.nodes opened (mid.batches c) (new.batches c) n e.known lt p.shut p.elsewhere;
       }
@@ -328,7 +328,7 @@ ends_stop c n old mid new commands answers opened back more e g p =
       each_closed = e.each_closed;
       done = e.done;
       answered = e.answered;
-      closes = e.closes ∙ ap (λ bs. map command_of e.closed ++ closing old.nodes bs) batches;
+      closes = e.closes ∙ ap (λ bs. map turn_command e.closed ++ closing old.nodes bs) batches;
       count = e.count;
       known = known_as old.nodes old.nodes opened (mid.batches c) (new.batches c) refl (sym batches) e.known;
     }

@@ -8,7 +8,7 @@ use Rattle.std.proofs.lemmas.List.Elements.{filter-append, All-nil, All-cons, Al
 use Rattle.thp_history.specs.declared.events.Event.{Event}
 use Rattle.thp_history.specs.declared.shape.Shape.{Shape}
 use Rattle.thp_history.specs.Prelude.{History, events_of, IsLegal}
-use Rattle.thp_worker.specs.Prelude.{Step, PutBack, Open, Reaction, Does, StepAnswer, Fronts, HoldsCaller, IsOther, SameHolding, Moves, Answered, Goes, Grows, Made, IsMade, ComesBefore, own_events, with_batch, batches_after, Carries, Steps, told_by}
+use Rattle.thp_worker.specs.Prelude.{Step, PutBack, Open, Reaction, Does, StepAnswer, Fronts, HoldsCaller, IsOfOthers, SameHolding, Moves, Answered, Goes, Grows, Made, IsMade, ComesBefore, own_events, with_batch, batches_after, Carries, Steps, step_results}
 
 -- ---- events by callers
 
@@ -31,7 +31,7 @@ none_own c (e ∷ es) all =
     rw (ne_eqb e.caller c (all 0 e (omega arith)), rest) refl
 
 -- an event of somebody else isn't by a caller of the holder
-not_other : (f : Fronts) (d : ℕ) (es : List Event) → HoldsCaller f d → All (IsOther f) es → events_of d es ≡ []
+not_other : (f : Fronts) (d : ℕ) (es : List Event) → HoldsCaller f d → All (IsOfOthers f) es → events_of d es ≡ []
 not_other f d es has all = none_own d es (λ k e lt same. let other = all k e lt in let high = other (omega (arith, has.low, same)) in absurd (omega (arith, has.high, high, same)))
 
 -- ---- holders that go on
@@ -183,7 +183,7 @@ made_by c n step old new answer a = record {
   before = length (old.front n ++ a.others);
   batch = old.batches c n;
   own = a.own;
-  told = record { step = step; answer = answer };
+  reported = record { step = step; answer = answer };
   after = a.after;
 }
 
@@ -237,13 +237,13 @@ pub after_put_back : (s : Shape) (h : History) (c : ℕ) (batch : Option Open) (
 unfolding Does
 after_put_back s h c x own answer after d = grind arith
 
-pub closed_by : (c n : ℕ) (old new : Fronts) (answer : Reaction) (ms : List Made) → Steps c old new ms → All (λ (m : Made). m.node ≡ n) ms → told_by ms ≡ record { step = PutBack; answer = answer } ∷ [] → new.batches c n ≡ None
+pub closed_by : (c n : ℕ) (old new : Fronts) (answer : Reaction) (ms : List Made) → Steps c old new ms → All (λ (m : Made). m.node ≡ n) ms → step_results ms ≡ record { step = PutBack; answer = answer } ∷ [] → new.batches c n ≡ None
 unfolding batches_after
-closed_by c n old new answer [] s on told = absurd (cc)
-closed_by c n old new answer (m ∷ []) s on told =
+closed_by c n old new answer [] s on reported = absurd (cc)
+closed_by c n old new answer (m ∷ []) s on reported =
     let here : m.node ≡ n = All-head (λ (x : Made). x.node ≡ n) m [] on in
-    let is : m.told ≡ record { step = PutBack; answer = answer } = cc in
+    let is : m.reported ≡ record { step = PutBack; answer = answer } = cc in
     let does = (All-head (IsMade old.shape new.front c) m [] s.each).does in
     let put : Does (old.shape m.node) (take m.before (new.front m.node)) c m.batch PutBack m.own answer m.after = subst (λ (t : StepAnswer). Does (old.shape m.node) (take m.before (new.front m.node)) c m.batch t.step m.own t.answer m.after) is does in
     s.batches n ∙ rw (eq-eqb n m.node (sym here)) (after_put_back _ _ c m.batch m.own answer m.after put)
-closed_by c n old new answer (m ∷ l ∷ ms) s on told = absurd (cc)
+closed_by c n old new answer (m ∷ l ∷ ms) s on reported = absurd (cc)

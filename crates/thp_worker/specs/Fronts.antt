@@ -34,8 +34,8 @@ pub record HoldsAllCallers (f : Fronts) : Type 0 where
   pub high : f.end ≡ f.callers
 
 -- the event is of a caller that is not the holder's
-abbrev pub IsOther : Fronts → Event → Type 0
-IsOther f e = f.first ≤ e.caller → f.end ≤ e.caller
+abbrev pub IsOfOthers : Fronts → Event → Type 0
+IsOfOthers f e = f.first ≤ e.caller → f.end ≤ e.caller
 
 -- nodes, shapes and callers don't change
 pub record SameHolding (old new : Fronts) : Type 0 where
@@ -50,7 +50,7 @@ pub record SameHolding (old new : Fronts) : Type 0 where
 -- there is `after`. The other nodes and the other open batches don't change.
 pub record Moves (c n : ℕ) (old new : Fronts) (others own : List Event) (after : Option Open) : Type 0 where
   pub same : SameHolding old new
-  pub by_others : All (IsOther old) others
+  pub by_others : All (IsOfOthers old) others
   pub by_caller : All (λ (e : Event). e.caller ≡ c) own
   pub front : new.front n ≡ old.front n ++ others ++ own
   pub elsewhere : (m : ℕ) → (m ≡ n → ⊥) → new.front m ≡ old.front m

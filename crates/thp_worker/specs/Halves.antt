@@ -5,7 +5,7 @@ use Rattle.thp_script.specs.declared.script.Command.{Command}
 use Rattle.thp_worker.specs.declared.reply.SectionOutcome.{SectionOutcome}
 use Rattle.thp_worker.specs.Fronts.{Fronts, HoldsCaller, SameNodes}
 use Rattle.thp_worker.specs.OpenBatches.{HasNoBatch}
-use Rattle.thp_worker.specs.Sections.{IsCommandFor, Works}
+use Rattle.thp_worker.specs.Sections.{IsWorkFor, Works}
 
 -- g knows of caller c what f knows, or more of what others did
 pub record KnowsOf (c : ℕ) (f g : Fronts) : Type 0 where
@@ -23,7 +23,7 @@ pub record IsPart (f g : Fronts) : Type 0 where
   pub front : (n : ℕ) → g.front n ≡ f.front n
   pub batches : (c n : ℕ) → HoldsCaller g c → g.batches c n ≡ f.batches c n
 
-pub record IsSplit (at : ℕ) (f l r : Fronts) : Type 0 where
+pub record AreFrontsSplit (at : ℕ) (f l r : Fronts) : Type 0 where
   pub left : IsPart f l
   pub right : IsPart f r
   pub first : l.first ≡ f.first
@@ -34,7 +34,7 @@ pub record CanJoin (l r : Fronts) : Type 0 where
   pub same : SameNodes l r
   pub adjoin : l.end ≡ r.first
 
-pub record IsJoined (l r f : Fronts) : Type 0 where
+pub record AreFrontsJoined (l r f : Fronts) : Type 0 where
   pub same : SameNodes l f
   pub first : f.first ≡ l.first
   pub end : f.end ≡ r.end
@@ -50,9 +50,9 @@ AllWork c old new (v ∷ vs) [] = ⊥
 AllWork c old new (v ∷ vs) (w ∷ ws) = Works c old new v w × AllWork (c + 1) old new vs ws
 
 -- few commands, each for an existing node
-pub record IsSection (nodes : ℕ) (commands : List Command) : Type 0 where
+pub record AreCommandsFor (nodes : ℕ) (commands : List Command) : Type 0 where
   pub few : length commands < 2 ^ 32
-  pub fit : All (IsCommandFor nodes) commands
+  pub fit : All (IsWorkFor nodes) commands
 
 -- the passes have the workers from `from` on, and these are all workers from there on; none has an open batch
 pub record CanRun (f : Fronts) (from : ℕ) (workers : List (List Command)) : Type 0 where
@@ -60,7 +60,7 @@ pub record CanRun (f : Fronts) (from : ℕ) (workers : List (List Command)) : Ty
   pub low : f.first ≤ from
   pub high : f.end ≡ from + length workers
   pub fits : f.end < 2 ^ 32
-  pub sections : All (IsSection f.nodes) workers
+  pub sections : All (AreCommandsFor f.nodes) workers
   pub shut : (c : ℕ) → HoldsCaller f c → from ≤ c → HasNoBatch c f
 
 -- the workers from `from` on executed their sections after what was known, and the passes' other callers did nothing

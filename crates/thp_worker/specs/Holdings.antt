@@ -28,7 +28,7 @@ abbrev pub KeepsNode : Held → Type 0
 KeepsNode h = h.pass.keeps ≡ true
 
 -- Each caller has a place. An open batch belongs to its caller, and its remaining pages are a prefix of the caller's flight.
-pub record IsHeld (cell : TableId) (pass : PassState) (batches : List (Option BatchState)) : Type 0 where
+pub record IsHolding (cell : TableId) (pass : PassState) (batches : List (Option BatchState)) : Type 0 where
   pub cell_is : pass.cell ≡ cell
   pub callers : pass.first + length batches ≡ pass.end
   pub each : (k : ℕ) (b : BatchState) → slice_get batches k ≡ Some (Some b) → (b.caller ≡ pass.first + k) × IsInFront pass.front b

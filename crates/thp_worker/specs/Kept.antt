@@ -38,11 +38,11 @@ is_there many (short.Long place) = place < many
 is_there many _ = ⊤
 
 -- These answers are stored, each long reply exists, and there is room for so many; or they are counted.
-pub record IsLog (are : Answers) (told : List Answer) (short : Vec ShortAnswer Global) (long : Vec Reply Global) (count room : ℕ) : Type 0 where
-  pub answers : answers_in long.items short.items ≡ if_kept are told
+pub record IsLog (are : Answers) (reported : List Answer) (short : Vec ShortAnswer Global) (long : Vec Reply Global) (count room : ℕ) : Type 0 where
+  pub answers : answers_in long.items short.items ≡ if_kept are reported
   pub there : All (λ a. is_there (length long.items) a.reply) short.items
-  pub kept : are ≡ Kept → vec_len short ≡ length told
-  pub counted : are ≡ Counted → count ≡ length told
-  pub fewer : vec_len long ≤ length told
+  pub kept : are ≡ Kept → vec_len short ≡ length reported
+  pub counted : are ≡ Counted → count ≡ length reported
+  pub fewer : vec_len long ≤ length reported
   pub short_room : are ≡ Kept → room ≤ vec_capacity short
   pub long_room : are ≡ Kept → room ≤ vec_capacity long

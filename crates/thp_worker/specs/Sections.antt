@@ -23,14 +23,14 @@ pub record Made : Type 0 where
   pub before : ℕ
   pub batch : Option Open
   pub own : List Event
-  pub told : StepAnswer
+  pub reported : StepAnswer
   pub after : Option Open
 
 -- the step of caller c is in the histories of the nodes
 pub record IsMade (shape : ℕ → Shape) (history : ℕ → History) (c : ℕ) (m : Made) : Type 0 where
   pub within : m.before + length m.own ≤ length (history m.node)
   pub stands : take (length m.own) (drop m.before (history m.node)) ≡ m.own
-  pub does : Does (shape m.node) (take m.before (history m.node)) c m.batch m.told.step m.own m.told.answer m.after
+  pub does : Does (shape m.node) (take m.before (history m.node)) c m.batch m.reported.step m.own m.reported.answer m.after
 
 -- of two steps on one node, the later one comes after the events of the earlier one
 abbrev pub ComesBefore : Made → Made → Type 0
@@ -64,15 +64,15 @@ pub record Steps (c : ℕ) (old new : Fronts) (ms : List Made) : Type 0 where
   pub batches : (n : ℕ) → new.batches c n ≡ batches_after (old.batches c) ms n
 
 -- the steps and their results
-abbrev pub told_by : List Made → List StepAnswer
-told_by ms = map (λ (m : Made). m.told) ms
+abbrev pub step_results : List Made → List StepAnswer
+step_results ms = map (λ (m : Made). m.reported) ms
 
 -- Caller c continued a command, from where it was begun.
 pub record Proceeds (c : ℕ) (command : Command) (begun : CommandProgress) (old new : Fronts) (p : CommandState) : Type 0 where
   pub made : List Made
   pub steps : Steps c old new made
   pub on_node : All (λ (m : Made). m.node ≡ command.node) made
-  pub turned : (told : List StepAnswer) → IsProgressAfter command.op told begun → Turned command.op (told ++ told_by made) p
+  pub turned : (reported : List StepAnswer) → IsProgressAfter command.op reported begun → Turned command.op (reported ++ step_results made) p
   pub ready : StaysReady (new.batches c command.node) p
 
 -- a command that was executed: its steps, and its answer
@@ -84,10 +84,10 @@ pub record Turn : Type 0 where
 -- the steps are on the command's node, and are those of the command
 pub record IsTurn (t : Turn) : Type 0 where
   pub on_node : All (λ (m : Made). m.node ≡ t.command.node) t.steps
-  pub turns_out : TurnsOut t.command.op (told_by t.steps) t.answer
+  pub turns_out : TurnsOut t.command.op (step_results t.steps) t.answer
 
-abbrev pub command_of : Turn → Command
-command_of t = t.command
+abbrev pub turn_command : Turn → Command
+turn_command t = t.command
 
 abbrev pub steps_of : List Turn → List Made
 steps_of ts = flat_map (λ (t : Turn). t.steps) ts
@@ -109,14 +109,14 @@ answers_from k [] = []
 answers_from k (t ∷ ts) = record { command = k; node = t.command.node; reply = t.answer } ∷ answers_from (k + 1) ts
 
 -- a command for an existing node
-pub record IsCommandFor (nodes : ℕ) (command : Command) : Type 0 where
+pub record IsWorkFor (nodes : ℕ) (command : Command) : Type 0 where
   pub node_exists : command.node < nodes
   pub fits : IsFit command.op
 
 -- the steps of a command that was begun, and can continue with these open batches
 pub record IsProgressOn (bs : ℕ → Option Open) (command : Command) (ms : List Made) (b : CommandProgress) : Type 0 where
   pub on_node : All (λ (m : Made). m.node ≡ command.node) ms
-  pub begun : IsProgressAfter command.op (told_by ms) b
+  pub begun : IsProgressAfter command.op (step_results ms) b
   pub ready : IsReady (bs command.node) b
 
 -- the steps belong to the command that comes next; there are none if there is no such command
@@ -132,7 +132,7 @@ pub record Begins (c : ℕ) (old new : Fronts) (commands : List Command) (answer
   pub grows : Grows old new
   pub steps : Steps c old new (steps_of turns ++ made)
   pub each : All IsTurn turns
-  pub done : map command_of turns ≡ take (length turns) commands
+  pub done : map turn_command turns ≡ take (length turns) commands
   pub answered : answers ≡ answers_from 0 turns
   pub next : IsNext (new.batches c) (slice_get commands (length turns)) made begun
   pub known : OpenOn old.nodes opened (batches_after (old.batches c) (steps_of turns))
@@ -146,9 +146,9 @@ pub record Ends (c : ℕ) (old new : Fronts) (commands : List Command) (answers 
   pub steps : Steps c old new (steps_of turns ++ steps_of closed)
   pub each : All IsTurn turns
   pub each_closed : All IsTurn closed
-  pub done : map command_of turns ≡ commands
+  pub done : map turn_command turns ≡ commands
   pub answered : answers ≡ answers_from 0 turns
-  pub closes : closing old.nodes (batches_after (old.batches c) (steps_of turns)) ≡ map command_of closed ++ closing old.nodes (new.batches c)
+  pub closes : closing old.nodes (batches_after (old.batches c) (steps_of turns)) ≡ map turn_command closed ++ closing old.nodes (new.batches c)
   pub count : length closed ≡ back
   pub known : OpenOn old.nodes opened (new.batches c)
 

@@ -43,45 +43,45 @@ abbrev pub answered_put_back : BackReply → StepAnswer
 answered_put_back back = record { step = PutBack; answer = Ok (reply.Back back) }
 
 -- a try that found a page
-abbrev pub IsPage : Tried → Type 0
-IsPage tried.Done = ⊥
-IsPage _ = ⊤
+abbrev pub FoundPage : Tried → Type 0
+FoundPage tried.Done = ⊥
+FoundPage _ = ⊤
 
-abbrev pub is_split : Tried → Bool
-is_split (tried.Split p) = true
-is_split _ = false
+abbrev pub is_split_try : Tried → Bool
+is_split_try (tried.Split p) = true
+is_split_try _ = false
 
-abbrev pub is_pinned : Tried → Bool
-is_pinned (tried.Pinned p) = true
-is_pinned _ = false
+abbrev pub is_pinned_try : Tried → Bool
+is_pinned_try (tried.Pinned p) = true
+is_pinned_try _ = false
 
-abbrev pub is_used : Tried → Bool
-is_used (tried.Used p) = true
-is_used _ = false
+abbrev pub is_used_try : Tried → Bool
+is_used_try (tried.Used p) = true
+is_used_try _ = false
 
 -- the counts of a scan, from its take and its tries
 abbrev pub counted : ℕ → List Tried → ScanReply
-counted taken tries = record { taken = taken; split = length (filter is_split tries); pinned = length (filter is_pinned tries); back = 0; dropped = 0; used = length (filter is_used tries) }
+counted taken tries = record { taken = taken; split = length (filter is_split_try tries); pinned = length (filter is_pinned_try tries); back = 0; dropped = 0; used = length (filter is_used_try tries) }
 
 -- a scan that was executed: a take, tries until no page is left, and a put back
-pub record ScanDone (n : ℕ) (told : List StepAnswer) (answer : Reaction) : Type 0 where
+pub record ScanDone (n : ℕ) (reported : List StepAnswer) (answer : Reaction) : Type 0 where
   pub taken : ℕ
   pub tries : List Tried
-  pub pages : All IsPage tries
+  pub pages : All FoundPage tries
   pub back : BackReply
-  pub steps : told ≡ took n taken ∷ map answered_try tries ++ answered_try tried.Done ∷ [] ++ answered_put_back back ∷ []
+  pub steps : reported ≡ took n taken ∷ map answered_try tries ++ answered_try tried.Done ∷ [] ++ answered_put_back back ∷ []
   pub answered : answer ≡ Ok (reply.Scan (record (counted taken tries) { back = back.back; dropped = back.dropped }))
 
 -- a scan whose take was refused
-pub record ScanRefused (n : ℕ) (told : List StepAnswer) (answer : Reaction) : Type 0 where
+pub record ScanRefused (n : ℕ) (reported : List StepAnswer) (answer : Reaction) : Type 0 where
   pub why : Refusal
-  pub steps : told ≡ record { step = Take n; answer = Err why } ∷ []
+  pub steps : reported ≡ record { step = Take n; answer = Err why } ∷ []
   pub answered : answer ≡ Err why
 
 -- the steps of a command and its answer
 abbrev pub TurnsOut : Op → List StepAnswer → Reaction → Type 0
-TurnsOut (op.Scan n) told answer = ScanDone n told answer ⊎ ScanRefused n told answer
-TurnsOut o told answer = told ≡ record { step = first_step o; answer = answer } ∷ []
+TurnsOut (op.Scan n) reported answer = ScanDone n reported answer ⊎ ScanRefused n reported answer
+TurnsOut o reported answer = reported ≡ record { step = first_step o; answer = answer } ∷ []
 
 -- a try that found no page, if it was made
 abbrev pub if_done : Bool → List StepAnswer
@@ -89,23 +89,23 @@ if_done true = answered_try tried.Done ∷ []
 if_done false = []
 
 -- a scan that was begun: its take, and the tries so far
-pub record Scanning (o : Op) (told : List StepAnswer) (so_far : ScanReply) : Type 0 where
+pub record Scanning (o : Op) (reported : List StepAnswer) (so_far : ScanReply) : Type 0 where
   pub count : ℕ
   pub is_scan : o ≡ op.Scan count
   pub taken : ℕ
   pub tries : List Tried
-  pub pages : All IsPage tries
+  pub pages : All FoundPage tries
   pub done : Bool
-  pub steps : told ≡ took count taken ∷ map answered_try tries ++ if_done done
+  pub steps : reported ≡ took count taken ∷ map answered_try tries ++ if_done done
   pub counts : so_far ≡ counted taken tries
 
 abbrev pub no_progress : CommandProgress
 no_progress = record { steps = 0; so_far = counted 0 [] }
 
 -- a command with no step yet, or a scan that was begun
-pub record IsProgressAfter (o : Op) (told : List StepAnswer) (begun : CommandProgress) : Type 0 where
-  pub count : begun.steps ≡ length told
-  pub so_far : ((told ≡ []) × (begun ≡ no_progress)) ⊎ Scanning o told begun.so_far
+pub record IsProgressAfter (o : Op) (reported : List StepAnswer) (begun : CommandProgress) : Type 0 where
+  pub count : begun.steps ≡ length reported
+  pub so_far : ((reported ≡ []) × (begun ≡ no_progress)) ⊎ Scanning o reported begun.so_far
 
 -- ---- the code's state from step to step
 
@@ -131,14 +131,14 @@ abbrev pub WholeComes : Result Reply CellFault → (CommandState → Type 0) →
 WholeComes answer P = (begun : CommandProgress) × Comes begun answer P
 
 -- the number of pages that a scan has tried
-abbrev pub tries_of : ScanReply → ℕ
-tries_of r = r.split + r.pinned + r.used
+abbrev pub tries_so_far : ScanReply → ℕ
+tries_so_far r = r.split + r.pinned + r.used
 
 abbrev pub scan_step : ℕ → ℕ → ℕ → Step
 scan_step n steps tries = if nat_eq steps 0 then Take n else if nat_eq steps (1 + tries) then SplitNext else PutBack
 
 abbrev pub next_step : Op → CommandProgress → Step
-next_step (op.Scan n) begun = scan_step n begun.steps (tries_of begun.so_far)
+next_step (op.Scan n) begun = scan_step n begun.steps (tries_so_far begun.so_far)
 next_step o begun = first_step o
 
 -- the possible results of a step of a scan
@@ -177,15 +177,15 @@ goes_on o begun answer = Ended answer
 
 -- with these steps the command reached this state
 abbrev pub Turned : Op → List StepAnswer → CommandState → Type 0
-Turned o told (On begun) = IsProgressAfter o told begun
-Turned o told (Ended answer) = TurnsOut o told answer
+Turned o reported (On begun) = IsProgressAfter o reported begun
+Turned o reported (Ended answer) = TurnsOut o reported answer
 
 -- the caller's open batch during the tries of a scan: the pages tried and those left are at most as many as a batch holds
 pub record Holding (batch : Option Open) (begun : CommandProgress) : Type 0 where
   pub open_batch : Open
   pub is : batch ≡ Some open_batch
-  pub few : tries_of begun.so_far + length open_batch.left ≤ max_batch
-  pub short : begun.steps ≤ 2 + tries_of begun.so_far
+  pub few : tries_so_far begun.so_far + length open_batch.left ≤ max_batch
+  pub short : begun.steps ≤ 2 + tries_so_far begun.so_far
 
 -- a command that can continue
 abbrev pub IsReady : Option Open → CommandProgress → Type 0
@@ -197,6 +197,6 @@ StaysReady batch (On begun) = IsReady batch begun
 StaysReady batch (Ended answer) = ⊤
 
 -- a command is postponed only if the holder does not have all callers
-abbrev pub IsShared : Fronts → CommandState → Type 0
-IsShared f (On begun) = HoldsAllCallers f → ⊥
-IsShared f (Ended answer) = ⊤
+abbrev pub MayPostpone : Fronts → CommandState → Type 0
+MayPostpone f (On begun) = HoldsAllCallers f → ⊥
+MayPostpone f (Ended answer) = ⊤

@@ -59,7 +59,7 @@ pub struct AnswerLog {
     // the number of answers that there is room for
     room: usize,
     // all answers, for contracts only
-    told: Trace<Answer>,
+    reported: Trace<Answer>,
 }
 
 impl Model for AnswerLog {
@@ -68,9 +68,9 @@ impl Model for AnswerLog {
 
     ghost Value = { LogState };
 
-    ghost view = { λ l. record { items = l.told; are = l.are; room = l.room } };
+    ghost view = { λ l. record { items = l.reported; are = l.are; room = l.room } };
 
-    ghost invariant = { λ l. IsLog l.are l.told l.short l.long l.count l.room };
+    ghost invariant = { λ l. IsLog l.are l.reported l.short l.long l.count l.room };
 }
 
 impl AnswerLog {
@@ -91,7 +91,7 @@ impl AnswerLog {
             long: Vec::with_capacity(alloc, kept)?,
             count: 0,
             room,
-            told: Trace::new(),
+            reported: Trace::new(),
         })
     }
 
@@ -106,7 +106,7 @@ impl AnswerLog {
         ensures room { self.new.room ≡ self.old.room }
     {
         // for contracts only: no code at run time
-        self.told.push(&Answer {
+        self.reported.push(&Answer {
             command,
             node,
             reply: called.and(Ok(*reply)),

@@ -2,7 +2,7 @@
 ghost use Rattle.std.specs.Prelude.{◌≡◌, ◌+◌, ◌≤◌, Ok, MatchOption, true, false};
 ghost use Rattle.thp_history.specs.Prelude.{max_batch};
 ghost use Rattle.thp_script.specs.declared.script.Op.TheVariants.{Scan};
-ghost use Rattle.thp_worker.specs.Prelude.{Comes, Ended, Fronts, Goes, HoldsCaller, IsCommandFor, IsReady, IsShared, On, Proceeds, WholeComes, answer_of, is_scan, next_step, no_progress, scan_goes_on, tries_of};
+ghost use Rattle.thp_worker.specs.Prelude.{Comes, Ended, Fronts, Goes, HoldsCaller, IsReady, IsWorkFor, MayPostpone, On, Proceeds, WholeComes, answer_of, is_scan, next_step, no_progress, scan_goes_on, tries_so_far};
 
 use crate::reply::Reply;
 use crate::steps::{Step, Steps, try_step};
@@ -39,7 +39,7 @@ pub(crate) fn no_progress() -> CommandProgress
 /// Returns the next step of a command.
 #[inline(always)]
 pub(crate) fn next_step(op: Op, begun: CommandProgress) -> Step
-    requires { tries_of begun.so_far ≤ max_batch }
+    requires { tries_so_far begun.so_far ≤ max_batch }
     ensures { result ≡ next_step op begun }
 {
     match op {
@@ -54,7 +54,7 @@ pub(crate) fn next_step(op: Op, begun: CommandProgress) -> Step
 /// Returns the next step of a scan of up to `count` pages.
 #[inline(always)]
 pub(crate) fn scan_step(count: u32, begun: CommandProgress) -> Step
-    requires { tries_of begun.so_far ≤ max_batch }
+    requires { tries_so_far begun.so_far ≤ max_batch }
     ensures { result ≡ next_step (Scan count) begun }
 {
     let tries = begun.so_far.split + begun.so_far.pinned + begun.so_far.used;
@@ -76,7 +76,7 @@ pub(crate) fn is_scan(op: Op) -> bool
 
 /// Counts the reply to a step of a scan. Returns the scan's reply after its last step.
 pub(crate) fn count_reply(begun: &mut CommandProgress, reply: &Reply) -> Option<Reply>
-    requires few { tries_of begun.old.so_far ≤ max_batch }
+    requires few { tries_so_far begun.old.so_far ≤ max_batch }
     requires short { begun.old.steps ≤ max_batch + 2 }
     ensures { MatchOption result (scan_goes_on begun.old (Ok reply.now) ≡ On begun.new) (λ answer. scan_goes_on begun.old (Ok reply.now) ≡ Ended (Ok answer)) }
 {
@@ -110,11 +110,11 @@ pub(crate) fn do_command<S: Steps>(
     reply: &mut Reply,
 ) -> Result<(), CellFault>
     requires caller { HoldsCaller (S.fronts steps.old) caller }
-    requires command { IsCommandFor (S.fronts steps.old).nodes command.now }
+    requires command { IsWorkFor (S.fronts steps.old).nodes command.now }
     requires ready { IsReady ((S.fronts steps.old).batches caller command.now.node) begun.old }
     ensures goes { Goes caller (S.fronts steps.old) (S.fronts steps.new) }
     ensures proceeds { Comes begun.new (answer_of result reply.new) (Proceeds caller command.now begun.old (S.fronts steps.old) (S.fronts steps.new)) }
-    ensures shared { Comes begun.new (answer_of result reply.new) (IsShared (S.fronts steps.old)) }
+    ensures shared { Comes begun.new (answer_of result reply.new) (MayPostpone (S.fronts steps.old)) }
 {
     if is_scan(command.op) {
         do_scan(command, caller, begun, steps, reply)
@@ -134,10 +134,10 @@ pub(crate) fn do_whole_command<S: Steps>(
     reply: &mut Reply,
 ) -> Result<(), CellFault>
     requires caller { HoldsCaller (S.fronts steps.old) caller }
-    requires command { IsCommandFor (S.fronts steps.old).nodes command.now }
+    requires command { IsWorkFor (S.fronts steps.old).nodes command.now }
     ensures goes { Goes caller (S.fronts steps.old) (S.fronts steps.new) }
     ensures proceeds { WholeComes (answer_of result reply.new) (Proceeds caller command.now no_progress (S.fronts steps.old) (S.fronts steps.new)) }
-    ensures shared { WholeComes (answer_of result reply.new) (IsShared (S.fronts steps.old)) }
+    ensures shared { WholeComes (answer_of result reply.new) (MayPostpone (S.fronts steps.old)) }
 {
     if is_scan(command.op) {
         let mut begun = no_progress();
@@ -160,11 +160,11 @@ fn do_scan<S: Steps>(
 ) -> Result<(), CellFault>
     requires scan { is_scan command.now.op ≡ true }
     requires caller { HoldsCaller (S.fronts steps.old) caller }
-    requires command { IsCommandFor (S.fronts steps.old).nodes command.now }
+    requires command { IsWorkFor (S.fronts steps.old).nodes command.now }
     requires ready { IsReady ((S.fronts steps.old).batches caller command.now.node) begun.old }
     ensures goes { Goes caller (S.fronts steps.old) (S.fronts steps.new) }
     ensures proceeds { Comes begun.new (answer_of result reply.new) (Proceeds caller command.now begun.old (S.fronts steps.old) (S.fronts steps.new)) }
-    ensures shared { Comes begun.new (answer_of result reply.new) (IsShared (S.fronts steps.old)) }
+    ensures shared { Comes begun.new (answer_of result reply.new) (MayPostpone (S.fronts steps.old)) }
 {
     let Op::Scan { count } = command.op else {
         unreachable!();

@@ -1,7 +1,7 @@
 //! Runs workers concurrently, by dividing them into halves.
 ghost use Rattle.std.specs.Prelude.{◌≡◌, ◌<◌, All, IfOk, IsOkAnd, List, ◌++◌};
 ghost use Rattle.std.specs.Thread.{IsSync};
-ghost use Rattle.thp_worker.specs.Prelude.{AnswersAre, CanJoin, CanRun, Fronts, HoldsAllCallers, IsJoined, IsSplit, RangeDone};
+ghost use Rattle.thp_worker.specs.Prelude.{AnswersAre, AreFrontsJoined, AreFrontsSplit, CanJoin, CanRun, Fronts, HoldsAllCallers, RangeDone};
 ghost use Rattle.thp_worker.specs.declared.reply.SectionOutcome.{SectionOutcome};
 
 use crate::answer_log::Answers;
@@ -19,12 +19,12 @@ pub trait Passes: Steps + Sized {
     fn split(self, alloc: Global, at: u32) -> Result<(Self, Self), AllocError>
         requires after { (Self.fronts self).first < at }
         requires before { at < (Self.fronts self).end }
-        ensures { IfOk result (λ r. IsSplit at (Self.fronts self) (Self.fronts r.0) (Self.fronts r.1)) };
+        ensures { IfOk result (λ r. AreFrontsSplit at (Self.fronts self) (Self.fronts r.0) (Self.fronts r.1)) };
 
     /// Joins two passes of the same nodes whose callers are adjacent.
     fn join(self, alloc: Global, other: Self) -> Result<Self, AllocError>
         requires { CanJoin (Self.fronts self) (Self.fronts other) }
-        ensures { IfOk result (λ r. IsJoined (Self.fronts self) (Self.fronts other) (Self.fronts r)) };
+        ensures { IfOk result (λ r. AreFrontsJoined (Self.fronts self) (Self.fronts other) (Self.fronts r)) };
 
     /// Keeps the nodes for the following steps, until the callers are divided, if that saves each step taking and releasing its
     /// node. The holder's knowledge of the nodes does not change; [`NodePasses`](crate::NodePasses) also guarantees that each

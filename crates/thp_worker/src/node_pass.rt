@@ -25,13 +25,13 @@ pub struct NodePass<'a, R: Recorder = FullLog> {
 }
 
 impl<'a, R: Recorder> Model for NodePass<'a, R> {
-    ghost use Rattle.thp_worker.specs.Holdings.{Held, IsHeld};
+    ghost use Rattle.thp_worker.specs.Holdings.{Held, IsHolding};
 
     ghost Value = { Held };
 
     ghost view = { λ p. record { pass = p.pass; batches = p.batches.items } };
 
-    ghost invariant = { λ p. IsHeld p.cell.now p.pass p.batches.items };
+    ghost invariant = { λ p. IsHolding p.cell.now p.pass p.batches.items };
 }
 
 impl<'a, R: Recorder> NodePass<'a, R> {

@@ -115,10 +115,12 @@ pub(crate) fn try_step<S: Steps>(
 
 /// Returns the result of a call, or `None` if the node was busy. Fails if memory for the events could not be allocated.
 #[inline(always)]
-pub(crate) fn told(called: Result<(), CellFault>) -> Result<Option<Result<(), Refusal>>, AllocError>
-    ensures some { IfOk result (λ told. IfSome told (λ said. called ≡ by_cell said)) }
-    ensures memory { IfOk result (λ told. IfSome told (λ said. called ≢ Err (CellFault.Refused Refusal.OutOfMemory))) }
-    ensures busy { IfOk result (λ told. IfNone told (called ≡ Err CellFault.Busy)) }
+pub(crate) fn result_unless_busy(
+    called: Result<(), CellFault>,
+) -> Result<Option<Result<(), Refusal>>, AllocError>
+    ensures some { IfOk result (λ reported. IfSome reported (λ said. called ≡ by_cell said)) }
+    ensures memory { IfOk result (λ reported. IfSome reported (λ said. called ≢ Err (CellFault.Refused Refusal.OutOfMemory))) }
+    ensures busy { IfOk result (λ reported. IfNone reported (called ≡ Err CellFault.Busy)) }
     ensures lacking { IfErr result (λ _. called ≡ Err (CellFault.Refused Refusal.OutOfMemory)) }
 {
     match called {

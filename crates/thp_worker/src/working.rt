@@ -1,13 +1,13 @@
 //! The commands of a section, one after another, all at once or as they arrive in parts, and the put backs at its end.
 ghost use Rattle.std.specs.Prelude.{◌≡◌, ◌^◌, ◌≤◌, ◌<◌, ◌++◌, [], All, IfOk, List, length};
 ghost use Rattle.thp_script.specs.declared.script.Command.{Command};
-ghost use Rattle.thp_worker.specs.Prelude.{AnswersAre, Begins, Comes, DidFirst, Ends, Fronts, Goes, HasNoBatch, HoldsAllCallers, HoldsCaller, IsCommandFor, IsDoneFor, IsShared, PutsBack, Works, answer_of, marked, no_progress};
+ghost use Rattle.thp_worker.specs.Prelude.{AnswersAre, Begins, Comes, DidFirst, Ends, Fronts, Goes, HasNoBatch, HoldsAllCallers, HoldsCaller, IsDoneFor, IsWorkFor, MayPostpone, PutsBack, Works, answer_of, marked, no_progress};
 
 use crate::answer_log::{AnswerLog, Answers};
 use crate::command::{CommandProgress, do_command, do_whole_command, no_progress};
 use crate::gate::{Gate, NoGate};
 use crate::reply::{Reply, Rest, SectionOutcome};
-use crate::steps::{Steps, told};
+use crate::steps::{Steps, result_unless_busy};
 use std::alloc::{AllocError, Global};
 use thp_history::Refusal;
 use thp_script::{Command, Op};
@@ -26,7 +26,7 @@ pub fn work<S: Steps, G: Gate>(
 ) -> Result<SectionOutcome, AllocError>
     requires caller { HoldsCaller (S.fronts steps.old) worker }
     requires few { length commands.now < 2 ^ 32 }
-    requires commands { All (IsCommandFor (S.fronts steps.old).nodes) commands.now }
+    requires commands { All (IsWorkFor (S.fronts steps.old).nodes) commands.now }
     requires shut { HasNoBatch worker (S.fronts steps.old) }
     ensures goes { Goes worker (S.fronts steps.old) (S.fronts steps.new) }
     ensures works { IfOk result (Works worker (S.fronts steps.old) (S.fronts steps.new) commands.now) }
@@ -48,7 +48,7 @@ pub fn work_rest<S: Steps>(
 ) -> Result<SectionOutcome, AllocError>
     requires caller { HoldsCaller (S.fronts steps.old) worker }
     requires few { length commands.now < 2 ^ 32 }
-    requires commands { All (IsCommandFor (S.fronts steps.old).nodes) commands.now }
+    requires commands { All (IsWorkFor (S.fronts steps.old).nodes) commands.now }
     requires worked { (old : Fronts) × Works worker old (S.fronts steps.old) commands.now worked }
     ensures goes { Goes worker (S.fronts steps.old) (S.fronts steps.new) }
     ensures works { (old : Fronts) → Works worker old (S.fronts steps.old) commands.now worked → IfOk result (Works worker old (S.fronts steps.new) commands.now) }
@@ -81,7 +81,7 @@ fn go_on<S: Steps, G: Gate>(
 ) -> Result<SectionOutcome, AllocError>
     requires caller { HoldsCaller (S.fronts steps.old) worker }
     requires few { length commands.now < 2 ^ 32 }
-    requires commands { All (IsCommandFor (S.fronts steps.old).nodes) commands.now }
+    requires commands { All (IsWorkFor (S.fronts steps.old).nodes) commands.now }
     requires room { length commands.now ≤ answers.room }
     requires begun { (old : Fronts) × Begins worker old (S.fronts steps.old) commands.now answers.items opened.items begun }
     ensures goes { Goes worker (S.fronts steps.old) (S.fronts steps.new) }
@@ -96,7 +96,7 @@ fn go_on<S: Steps, G: Gate>(
         let command = &commands[index];
         let node = command.node;
         let called = do_command(command, worker, &mut begun, steps, &mut reply);
-        let Some(said) = told(called)? else {
+        let Some(said) = result_unless_busy(called)? else {
             let rest = Rest {
                 command: number,
                 steps: begun.steps,
@@ -145,7 +145,7 @@ pub(crate) fn close<S: Steps>(
             };
             let mut begun = no_progress();
             let called = do_command(&command, worker, &mut begun, steps, &mut reply);
-            let Some(_) = told(called)? else {
+            let Some(_) = result_unless_busy(called)? else {
                 let rest = Rest {
                     command: count,
                     steps: closed,
@@ -212,7 +212,7 @@ pub fn do_commands<S: Steps>(
 ) -> Result<SectionOutcome, AllocError>
     requires caller { HoldsCaller (S.fronts steps.old) worker }
     requires all { HoldsAllCallers (S.fronts steps.old) }
-    requires commands { All (IsCommandFor (S.fronts steps.old).nodes) commands.now }
+    requires commands { All (IsWorkFor (S.fronts steps.old).nodes) commands.now }
     requires opened { length section.opened.items ≡ (S.fronts steps.old).nodes }
     ensures goes { Goes worker (S.fronts steps.old) (S.fronts steps.new) }
     ensures did { (old : Fronts) (before : List Command) → DidFirst worker old (S.fronts steps.old) before section → IfOk result (DidFirst worker old (S.fronts steps.new) (before ++ commands.now)) }
@@ -228,7 +228,7 @@ pub fn do_commands<S: Steps>(
     for index in 0..commands.len() {
         let command = &commands[index];
         let called = do_whole_command(command, worker, steps, &mut reply);
-        let Some(said) = told(called)? else {
+        let Some(said) = result_unless_busy(called)? else {
             unreachable!();
         };
         mark(&mut section.opened, *command, said);

@@ -4,7 +4,7 @@ ghost use Rattle.thp_cell.specs.Prelude.{at_front, HasCaller};
 ghost use Rattle.thp_node.specs.Prelude.{IsInFront};
 
 use crate::nodes::new_cell;
-use crate::stopwatch::tell_nanos;
+use crate::stopwatch::report_nanos;
 use anyhow::{Context, Result};
 use std::time::{CpuClock, Duration};
 use thp_cell::{CellFault, NodeCell, Pass};
@@ -58,7 +58,7 @@ fn time_one<R: CpuClock + Eprint + AllocGlobal>(
         spent = spent.saturating_add(lap.as_nanos());
         sum = sum.wrapping_add(answers);
     }
-    tell_nanos(rt, what, cells.saturating_mul(EACH), spent, sum)
+    report_nanos(rt, what, cells.saturating_mul(EACH), spent, sum)
 }
 
 // The time of the rounds on a new cell, and the sum of their numbers.

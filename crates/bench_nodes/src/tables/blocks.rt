@@ -91,7 +91,7 @@ fn time_numbers<R: CpuClock + Eprint, D: Display + Drop>(
 {
     let watch = Stopwatch::start(rt)?;
     let found = look_up(table, blocks, numbers, rounds);
-    watch.tell(rt, what, rounds, found)
+    watch.report(rt, what, rounds, found)
 }
 
 // A table of this many blocks, each with a page.

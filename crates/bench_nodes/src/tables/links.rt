@@ -42,7 +42,7 @@ fn time_rotations<R: CpuClock + Eprint>(
         }
     }
     let what = format_args!("pop_front and push_back, {blocks} blocks");
-    watch.tell(rt, what, rounds, sum)
+    watch.report(rt, what, rounds, sum)
 }
 
 // Removes the oldest block and appends it to the queue.
@@ -92,7 +92,7 @@ fn time_returns<R: CpuClock + Eprint>(
         i = after(i, blocks);
     }
     let what = format_args!("remove and push_back, {blocks} blocks");
-    watch.tell(rt, what, rounds, sum)
+    watch.report(rt, what, rounds, sum)
 }
 
 // The block to be removed after this one.

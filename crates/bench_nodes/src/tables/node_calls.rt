@@ -1,7 +1,7 @@
 //! Times of the calls of a bare node: the rounds that bench/calls makes from C and in plain Rust.
 
 use crate::nodes::new_node;
-use crate::stopwatch::tell_nanos;
+use crate::stopwatch::report_nanos;
 use anyhow::{Context, Result};
 use std::alloc::Global;
 use std::time::{CpuClock, Duration};
@@ -65,7 +65,7 @@ fn time_one<R: CpuClock + Eprint + AllocGlobal>(
         spent = spent.saturating_add(lap.as_nanos());
         sum = sum.wrapping_add(answers);
     }
-    tell_nanos(rt, what, rounds / EACH * EACH, spent, sum)
+    report_nanos(rt, what, rounds / EACH * EACH, spent, sum)
 }
 
 // The time of the rounds on a node, and the sum of their numbers.

@@ -20,7 +20,7 @@ pub(crate) fn time_range<R: CpuClock + Eprint>(rt: &R, count: u32, rounds: u32) 
         sum = sum.wrapping_add(u64::from(page.map_sub(0, count).is_ok()));
     }
     let what = format_args!("unmap_sub and map_sub of {count}");
-    watch.tell(rt, what, rounds, sum)
+    watch.report(rt, what, rounds, sum)
 }
 
 /// Maps and unmaps the first subpages of a page that is split.
@@ -39,7 +39,7 @@ pub(crate) fn time_range_of_split_page<R: CpuClock + Eprint>(
         }
     }
     let what = format_args!("map_sub and unmap_sub of {count}, split page");
-    watch.tell(rt, what, rounds, sum)
+    watch.report(rt, what, rounds, sum)
 }
 
 /// Writes data and then zeros to the first subpages of a page.
@@ -52,7 +52,7 @@ pub(crate) fn time_writes<R: CpuClock + Eprint>(rt: &R, count: u32, rounds: u32)
         sum = sum.wrapping_add(u64::from(page.zero(0, count).is_ok()));
     }
     let what = format_args!("write and zero of {count}");
-    watch.tell(rt, what, rounds, sum)
+    watch.report(rt, what, rounds, sum)
 }
 
 /// Makes a page and splits its mapping.
@@ -63,7 +63,7 @@ pub(crate) fn time_split_pmd<R: CpuClock + Eprint>(rt: &R, rounds: u32) -> Resul
         let page = mapped_by_subpages();
         sum = sum.wrapping_add(u64::from(page.has_use()));
     }
-    watch.tell(rt, "fresh and split_pmd", rounds, sum)
+    watch.report(rt, "fresh and split_pmd", rounds, sum)
 }
 
 /// The same, and then unmaps half of the page and splits it.
@@ -75,7 +75,7 @@ pub(crate) fn time_split<R: CpuClock + Eprint>(rt: &R, rounds: u32) -> Result<()
         sum = sum.wrapping_add(u64::from(page.unmap_sub(0, 256).is_ok()));
         sum = sum.wrapping_add(u64::from(split(&mut page).count()));
     }
-    watch.tell(
+    watch.report(
         rt,
         "fresh, split_pmd, unmap_sub of 256 and split",
         rounds,

@@ -125,11 +125,14 @@ impl Dice {
 }
 
 // Whether both checks answer alike, and whether they find the history legal.
-fn told_by_both(alloc: Global, shape: Shape, events: &[Event]) -> (bool, bool)
+fn reported_by_both(alloc: Global, shape: Shape, events: &[Event]) -> (bool, bool)
     requires { shape.order ≡ 2 }
 {
-    let told = check(alloc, shape, events);
-    (slow_check(alloc, shape, events) == told, told.is_ok())
+    let reported = check(alloc, shape, events);
+    (
+        slow_check(alloc, shape, events) == reported,
+        reported.is_ok(),
+    )
 }
 
 // A small node, whose shrinker looks for underused pages in every second round.
@@ -148,7 +151,7 @@ fn add(rt: &impl Abort, alloc: Global, shape: Shape, events: &mut Vec<Event>, ev
     requires { shape.order ≡ 2 }
 {
     events.push(event).expect(rt, "memory");
-    let (agree, is_legal) = told_by_both(alloc, shape, events);
+    let (agree, is_legal) = reported_by_both(alloc, shape, events);
     assert!(rt; agree);
     if !is_legal {
         let _ = events.pop();

@@ -66,7 +66,7 @@ const TWO_PAGES_CLOSED: &[Row] = &[
 ];
 
 #[test]
-fn replay_tells_of_its_node(rt: HostRuntime) {
+fn replay_reports_of_its_node(rt: HostRuntime) {
     expect_counts(&rt, rt.alloc(), &[], 0, 0, false);
     expect_counts(&rt, rt.alloc(), TWO_PAGES, 2, 2, false);
     expect_counts(&rt, rt.alloc(), TWO_PAGES_CLOSED, 2, 2, true);
@@ -166,7 +166,7 @@ fn expect_standings_after(rt: &impl Abort, alloc: Global, events: &[Event]) {
 // Pages 0 to 3 of a large node were queued, and page 3 freed. Caller 0 took two of them, and caller 64, whose flight is in the
 // same list, took one.
 #[test]
-fn replay_tells_where_pages_stand(rt: HostRuntime) {
+fn replay_reports_where_pages_stand(rt: HostRuntime) {
     let alloc = rt.alloc();
     let mut events = queued_then(&rt, alloc, 4, TAKEN_BY_ZERO);
     expect_only_two_queued(&rt, alloc, &events);
@@ -237,7 +237,7 @@ fn expect_sums(rt: &impl Abort, replay: &Replay) {
 }
 
 #[test]
-fn replay_tells_what_events_add_up_to(rt: HostRuntime) {
+fn replay_reports_what_events_add_up_to(rt: HostRuntime) {
     let replay = small_replay(&rt, rt.alloc(), TWO_SPLITS);
     expect_sums(&rt, &replay);
     drop(replay);

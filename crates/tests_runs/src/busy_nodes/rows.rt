@@ -1,6 +1,6 @@
 //! Rows of a section on a node that is busy at chosen calls.
 ghost use Rattle.std.specs.Prelude.{◌<◌, ◌^◌, All, length};
-ghost use Rattle.thp_worker.specs.Prelude.{IsCommandFor};
+ghost use Rattle.thp_worker.specs.Prelude.{IsWorkFor};
 
 use crate::busy_nodes::sections::{BusyCalls, Queued, SectionResult, section};
 use crate::equal::expect_equal;
@@ -66,7 +66,7 @@ fn expect_section(
     wanted: Wanted,
 )
     requires few { length commands.now < 2 ^ 32 }
-    requires commands { All (IsCommandFor 1) commands.now }
+    requires commands { All (IsWorkFor 1) commands.now }
 {
     let section = section(rt, alloc, queued, busy, commands);
     expect_wanted(rt, &section, wanted);

@@ -1,7 +1,7 @@
 //! Sections on one node of two callers, from its making on. Want of memory is returned, so that each allocation can be made to fail.
 ghost use Rattle.std.specs.Prelude.{◌≡◌, ◌<◌, ◌^◌, [], ◌∷◌, All, IfOk, length};
 ghost use Rattle.thp_run.specs.Listed.{WorksOn};
-ghost use Rattle.thp_worker.specs.Prelude.{IsStep, Goes, SameHolding, HasNoBatch, fronts_in, IsCommandFor};
+ghost use Rattle.thp_worker.specs.Prelude.{IsStep, Goes, SameHolding, HasNoBatch, fronts_in, IsWorkFor};
 ghost use Rattle.thp_cell.specs.Prelude.{HasAll};
 ghost use Rattle.tests_runs.specs.Sharing.{OfTwo, WasWorked};
 
@@ -83,7 +83,7 @@ pub fn begin<'a>(
     requires two { OfTwo (fronts_in passes) }
     requires shut { HasNoBatch 1 (fronts_in passes) }
     requires few { length commands.now < 2 ^ 32 }
-    requires commands { All (IsCommandFor 1) commands.now }
+    requires commands { All (IsWorkFor 1) commands.now }
     ensures two { IfOk result (λ r. OfTwo (fronts_in r.0)) }
     ensures same { IfOk result (λ r. SameHolding (fronts_in passes.entry) (fronts_in r.0)) }
     ensures worked { IfOk result (λ r. WasWorked 1 (fronts_in r.0) commands.now r.1) }
@@ -115,7 +115,7 @@ pub fn go_on(
 ) -> Result<Worked, AllocError>
     requires two { OfTwo (fronts_in passes.old) }
     requires few { length commands.now < 2 ^ 32 }
-    requires commands { All (IsCommandFor 1) commands.now }
+    requires commands { All (IsWorkFor 1) commands.now }
     requires worked { WasWorked 1 (fronts_in passes.old) commands.now worked }
     ensures two { OfTwo (fronts_in passes.new) }
     ensures same { SameHolding (fronts_in passes.old) (fronts_in passes.new) }
@@ -259,7 +259,7 @@ fn try_section(
     commands: &[Command],
 ) -> Result<SectionResult, AllocError>
     requires few { length commands.now < 2 ^ 32 }
-    requires commands { All (IsCommandFor 1) commands.now }
+    requires commands { All (IsWorkFor 1) commands.now }
 {
     let (cell, pass) = cell_of(alloc)?;
     let mut passes = passes_of(alloc, &cell, pass)?;
@@ -292,7 +292,7 @@ pub fn section(
     commands: &[Command],
 ) -> SectionResult
     requires few { length commands.now < 2 ^ 32 }
-    requires commands { All (IsCommandFor 1) commands.now }
+    requires commands { All (IsWorkFor 1) commands.now }
 {
     match try_section(rt, alloc, queued, busy, commands) {
         Ok(result) => result,

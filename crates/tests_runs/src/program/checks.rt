@@ -15,9 +15,9 @@ fn checked(alloc: Global, journal: &[u8]) -> Result<(bool, Vec<u8>), RunFault> {
 }
 
 /// Whether a journal is reported as legal or not, by this text.
-pub(crate) fn tells(alloc: Global, journal: &[u8], legal: bool, text: &[u8]) -> bool {
+pub(crate) fn check_reports(alloc: Global, journal: &[u8], legal: bool, text: &[u8]) -> bool {
     match checked(alloc, journal) {
-        Ok((told, written)) => told == legal && written.as_slice() == text,
+        Ok((reported, written)) => reported == legal && written.as_slice() == text,
         Err(_) => false,
     }
 }
@@ -34,12 +34,20 @@ fn first_fault(alloc: Global, journal: &[u8]) -> Option<(u32, TextKind)> {
 fn legal_and_illegal_journals(rt: HostRuntime) {
     let alloc = rt.alloc();
     let empty = b"thp-journal 1\nnode 0 blocks 1\nend\n";
-    expect_equal(&rt, tells(alloc, empty, true, b"legal\n"), true);
+    expect_equal(&rt, check_reports(alloc, empty, true, b"legal\n"), true);
     let illegal = b"thp-journal 1\nnode 0 blocks 1\n0 alloc 0\n0 pin 1\nend\n";
-    expect_equal(&rt, tells(alloc, illegal, false, b"illegal line 4\n"), true);
+    expect_equal(
+        &rt,
+        check_reports(alloc, illegal, false, b"illegal line 4\n"),
+        true,
+    );
     let second =
         b"thp-journal 1\nnode 0 blocks 1\n0 alloc 0\nnode 1 blocks 1\n0 unpin 0 stays -\nend\n";
-    expect_equal(&rt, tells(alloc, second, false, b"illegal line 5\n"), true);
+    expect_equal(
+        &rt,
+        check_reports(alloc, second, false, b"illegal line 5\n"),
+        true,
+    );
 }
 
 /// Journals with the line and the kind of their first error.
@@ -93,10 +101,14 @@ fn journal_check_and_cuts(rt: HostRuntime) {
     let alloc = rt.alloc();
     expect_equal(
         &rt,
-        tells(alloc, TAKES_THE_SECOND, false, b"illegal line 9\n"),
+        check_reports(alloc, TAKES_THE_SECOND, false, b"illegal line 9\n"),
         true,
     );
-    expect_equal(&rt, tells(alloc, TAKES_THE_FIRST, true, b"legal\n"), true);
+    expect_equal(
+        &rt,
+        check_reports(alloc, TAKES_THE_FIRST, true, b"legal\n"),
+        true,
+    );
     let length = TAKES_THE_FIRST.len();
     // cut within line 9, and after it
     expect_equal(
@@ -124,7 +136,7 @@ fn expect_cut(rt: &impl Abort, alloc: Global, front: &[u8]) {
 
 /// A journal is legal, and each prefix of it is cut.
 fn expect_legal(rt: &impl Abort, alloc: Global, journal: &[u8]) {
-    assert!(rt; tells(alloc, journal, true, b"legal\n"));
+    assert!(rt; check_reports(alloc, journal, true, b"legal\n"));
     for count in 0..journal.len() {
         expect_cut(rt, alloc, &journal[..count]);
     }

@@ -85,8 +85,8 @@ const SCRIPT_FAULTS: &[(&[u8], &str)] = &[
 #[test]
 fn script_faults(rt: HostRuntime) {
     for row in SCRIPT_FAULTS {
-        let (script, told) = *row;
-        assert!(rt; refuses(&rt, rt.alloc(), script, told), "{told}");
+        let (script, reported) = *row;
+        assert!(rt; refuses(&rt, rt.alloc(), script, reported), "{reported}");
     }
 }
 

@@ -1,7 +1,7 @@
 //! Reports of two workers on one node whose commands are done in a chosen order.
 ghost use Rattle.std.specs.Prelude.{◌≡◌, false};
 
-use crate::program::checks::tells;
+use crate::program::checks::check_reports;
 use crate::turns::InTurns;
 use std::alloc::Global;
 use std::process::Abort;
@@ -61,8 +61,8 @@ fn expect_report<R: Threads + Abort + Sync>(
     report: Report,
     text: &[u8],
 ) {
-    let told = in_turns(rt, alloc, first, report).expect(rt, "a report");
-    assert!(rt; told.as_slice() == text);
+    let reported = in_turns(rt, alloc, first, report).expect(rt, "a report");
+    assert!(rt; reported.as_slice() == text);
 }
 
 #[test]
@@ -72,6 +72,6 @@ fn gated_workers(rt: HostRuntime) {
         let (first, answers, journal) = *row;
         expect_report(&rt, alloc, first, Report::Answers, answers);
         expect_report(&rt, alloc, first, Report::Journal, journal);
-        assert!(rt; tells(alloc, journal, true, b"legal\n"));
+        assert!(rt; check_reports(alloc, journal, true, b"legal\n"));
     }
 }

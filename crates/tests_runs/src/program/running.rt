@@ -44,11 +44,16 @@ pub(crate) fn reports<T: Threads + Sync>(
 }
 
 /// Whether the script is refused with this line of standard error.
-pub(crate) fn refuses<T: Threads + Sync>(rt: &T, alloc: Global, script: &[u8], told: &str) -> bool {
+pub(crate) fn refuses<T: Threads + Sync>(
+    rt: &T,
+    alloc: Global,
+    script: &[u8],
+    reported: &str,
+) -> bool {
     match totals_of(rt, alloc, 16, script) {
         Ok(_) => false,
         Err(fault) => match format!(in alloc; "{fault}") {
-            Ok(text) => text.as_str() == told,
+            Ok(text) => text.as_str() == reported,
             Err(_) => false,
         },
     }

@@ -46,7 +46,7 @@ fn explain_sections(
 }
 
 // The reports agree with the nodes and the answers.
-fn tell_the_run(
+fn report_the_run(
     rt: &impl Abort,
     alloc: Global,
     settings: &Settings,
@@ -85,7 +85,7 @@ fn expect_legal(rt: &impl Abort, alloc: Global, nodes: &[Node]) {
 }
 
 // The answers are explained, and the reports agree with them.
-fn expect_told(
+fn expect_reported(
     rt: &impl Abort,
     alloc: Global,
     settings: &Settings,
@@ -96,7 +96,7 @@ fn expect_told(
     let tallies = tallies_of(alloc, nodes).expect(rt, "a tally");
     let tallies = tallies.as_slice();
     explain_sections(rt, alloc, tallies, script, nodes, sections);
-    tell_the_run(rt, alloc, settings, tallies, nodes, sections);
+    report_the_run(rt, alloc, settings, tallies, nodes, sections);
 }
 
 // Runs the script of a plan, checks the result, and returns how often later workers alternate.
@@ -105,7 +105,7 @@ fn run_plan<R: Threads + Clock + Abort + Sync>(rt: &R, alloc: Global, plan: &Pla
     let (script, ran) = ran(rt, alloc, plan, &settings);
     let (nodes, sections) = (ran.nodes.as_slice(), ran.sections.as_slice());
     expect_legal(rt, alloc, nodes);
-    expect_told(rt, alloc, &settings, &script, nodes, sections);
+    expect_reported(rt, alloc, &settings, &script, nodes, sections);
     changes_of(nodes)
 }
 

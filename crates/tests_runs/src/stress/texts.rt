@@ -29,12 +29,12 @@ pub(crate) fn are_totals(
     nodes: &[Node],
     tallies: &[Tally],
 ) -> Option<bool> {
-    let told = report_of(alloc, settings, Report::Totals, nodes, &[])?;
+    let reported = report_of(alloc, settings, Report::Totals, nodes, &[])?;
     let mut text = String::new(alloc);
     for (number, tally) in tallies.iter().enumerate() {
         tally.write(&mut text, number).ok()?;
     }
-    Some(told.as_slice() == text.as_bytes())
+    Some(reported.as_slice() == text.as_bytes())
 }
 
 // Whether the report `journal` is legal and, read back, has the nodes' events, except for blocks.
@@ -45,10 +45,16 @@ pub(crate) fn is_journal(alloc: Global, settings: &Settings, nodes: &[Node]) -> 
     }
     let journals = read_journal(alloc, text.as_slice()).ok()?;
     let read = journals.nodes.as_slice();
-    Some(read.len() == nodes.len() && read.iter().zip(nodes).all(|(read, node)| tells(read, node)))
+    Some(
+        read.len() == nodes.len()
+            && read
+                .iter()
+                .zip(nodes)
+                .all(|(read, node)| is_read_back(read, node)),
+    )
 }
 
-fn tells(read: &ReadNode, node: &Node) -> bool {
+fn is_read_back(read: &ReadNode, node: &Node) -> bool {
     let events = read.events.as_slice();
     read.shape == node.shape()
         && events.len() == node.journal().len()
@@ -69,12 +75,12 @@ pub(crate) fn are_answers(
     nodes: &[Node],
     sections: &[SectionLog],
 ) -> Option<bool> {
-    let told = report_of(alloc, settings, Report::Answers, nodes, sections)?;
+    let reported = report_of(alloc, settings, Report::Answers, nodes, sections)?;
     let mut text = String::new(alloc);
     for section in sections {
         write_section(&mut text, nodes, section).ok()?;
     }
-    Some(told.as_slice() == text.as_bytes())
+    Some(reported.as_slice() == text.as_bytes())
 }
 
 fn write_section(

@@ -3,7 +3,7 @@ use std::io;
 use std::io::Write;
 
 /// Reports that a call failed for lack of memory.
-pub(crate) fn tell(rt: &impl Print, call: &str) {
+pub(crate) fn print_call(rt: &impl Print, call: &str) {
     let _ = rt.print("refused: ");
     let _ = rt.println(call);
 }

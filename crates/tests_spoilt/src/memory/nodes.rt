@@ -1,5 +1,5 @@
 //! Each call of a node that records events, made when the journal has this many events, so that some of them make it grow.
-use crate::memory::devices::tell;
+use crate::memory::devices::print_call;
 use std::alloc::Global;
 use std::process::Abort;
 use thp_history::{PageId, Refusal, Shape};
@@ -138,7 +138,7 @@ pub(crate) fn expect_unchanged(
     refusal: Refusal,
     call: &str,
 ) {
-    tell(rt, call);
+    print_call(rt, call);
     assert!(rt; refusal == Refusal::OutOfMemory);
     assert!(rt; view_of(node) == before);
 }
@@ -148,7 +148,7 @@ pub(crate) fn node_at_last(rt: &(impl Abort + Print), alloc: Global, shape: Shap
         Ok(node) => return node,
         Err(fault) => {
             assert!(rt; matches!(fault, NewFault::OutOfMemory));
-            tell(rt, "Node::new");
+            print_call(rt, "Node::new");
         }
     }
     Node::new(alloc, shape).expect(rt, "a node at the second try")

@@ -1,5 +1,5 @@
 //! The calls that runs and checks consist of, each at the second try at the latest.
-use crate::memory::devices::tell;
+use crate::memory::devices::print_call;
 use crate::memory::runs::{JOURNAL, SCRIPT};
 use std::alloc::Global;
 use std::process::Abort;
@@ -29,11 +29,11 @@ fn are_places_refused(alloc: Global) -> bool {
 #[test]
 fn tables_and_places(rt: HostRuntime) {
     if is_table_refused(rt.alloc()) {
-        tell(&rt, "PageTable::new");
+        print_call(&rt, "PageTable::new");
         assert!(rt; !is_table_refused(rt.alloc()));
     }
     if are_places_refused(rt.alloc()) {
-        tell(&rt, "PageStore::new");
+        print_call(&rt, "PageStore::new");
         assert!(rt; !are_places_refused(rt.alloc()));
     }
 }
@@ -61,7 +61,7 @@ fn block_of(placed: Option<Event>) -> Option<u64> {
 fn place_at_last(rt: &(impl Abort + Print), blocks: &mut LeastBlocks, page: u64) {
     let mut placed = blocks.place(allocation(page));
     if placed.is_err() {
-        tell(rt, "LeastBlocks::place");
+        print_call(rt, "LeastBlocks::place");
         placed = blocks.place(allocation(page));
     }
     assert!(rt; block_of(placed.ok()) == Some(page));
@@ -71,7 +71,7 @@ fn place_at_last(rt: &(impl Abort + Print), blocks: &mut LeastBlocks, page: u64)
 fn least_blocks(rt: HostRuntime) {
     let mut made = LeastBlocks::new(rt.alloc(), SHAPE);
     if made.is_err() {
-        tell(&rt, "LeastBlocks::new");
+        print_call(&rt, "LeastBlocks::new");
         made = LeastBlocks::new(rt.alloc(), SHAPE);
     }
     let mut blocks = made.expect(&rt, "blocks at the second try");
@@ -124,15 +124,15 @@ fn is_check_of_text_refused(rt: &impl Abort, alloc: Global) -> bool {
 fn texts(rt: HostRuntime) {
     let settings = settings_of(&rt);
     if is_script_refused(&rt, rt.alloc(), &settings) {
-        tell(&rt, "read_script");
+        print_call(&rt, "read_script");
         assert!(rt; !is_script_refused(&rt, rt.alloc(), &settings));
     }
     if is_journal_refused(&rt, rt.alloc()) {
-        tell(&rt, "read_journal");
+        print_call(&rt, "read_journal");
         assert!(rt; !is_journal_refused(&rt, rt.alloc()));
     }
     if is_check_of_text_refused(&rt, rt.alloc()) {
-        tell(&rt, "check_text");
+        print_call(&rt, "check_text");
         assert!(rt; !is_check_of_text_refused(&rt, rt.alloc()));
     }
 }
@@ -161,11 +161,11 @@ fn is_text_refused(alloc: Global, events: &[Event]) -> bool {
 fn histories(rt: HostRuntime) {
     let events = [allocation(0)];
     if is_check_refused(&rt, rt.alloc(), events.as_slice()) {
-        tell(&rt, "check");
+        print_call(&rt, "check");
         assert!(rt; !is_check_refused(&rt, rt.alloc(), events.as_slice()));
     }
     if is_text_refused(rt.alloc(), events.as_slice()) {
-        tell(&rt, "journal_text");
+        print_call(&rt, "journal_text");
         assert!(rt; !is_text_refused(rt.alloc(), events.as_slice()));
     }
 }
@@ -180,7 +180,7 @@ fn lines(rt: HostRuntime) {
         "--report=journal",
     ];
     if read_line(rt.alloc(), words.as_slice()).is_err() {
-        tell(&rt, "read_line");
+        print_call(&rt, "read_line");
         assert!(rt; read_line(rt.alloc(), words.as_slice()).is_ok());
     }
 }

@@ -1,5 +1,5 @@
 //! The program without memory: its exit status, and its messages on standard error.
-use crate::memory::devices::{Compares, tell};
+use crate::memory::devices::{Compares, print_call};
 use crate::memory::runs::JOURNAL;
 use std::alloc::{AllocError, Global};
 use std::process::Abort;
@@ -65,11 +65,11 @@ fn words_at_last(rt: &impl Abort, alloc: Global, words: &[&str]) -> Vec<String> 
 
 /// Whether memory could not be allocated: nothing was written, and the status is 3. `None` if the program ended wrong in another
 /// way.
-fn is_refused(task: &Task, status: u8, output: &Compares, told: &Compares) -> Option<bool> {
+fn is_refused(task: &Task, status: u8, output: &Compares, reported: &Compares) -> Option<bool> {
     let is_right = if status == 3 {
         output.has_nothing()
     } else {
-        status == task.status && output.has_all() && told.has_all()
+        status == task.status && output.has_all() && reported.has_all()
     };
     if is_right { Some(status == 3) } else { None }
 }
@@ -80,18 +80,25 @@ fn end_once<T: Threads + Sync + Abort>(rt: &T, alloc: Global, task: &Task) -> bo
     let words = words_at_last(rt, alloc, task.words.as_slice());
     let mut reader = Watched::new(task.input);
     let mut output = Watched::new(Compares::new(task.output));
-    let mut told = Watched::new(Compares::new(task.errors));
-    let status = run_program(rt, alloc, Ok(words), &mut reader, &mut output, &mut told);
+    let mut reported = Watched::new(Compares::new(task.errors));
+    let status = run_program(
+        rt,
+        alloc,
+        Ok(words),
+        &mut reader,
+        &mut output,
+        &mut reported,
+    );
     let output = output.into_inner();
-    let told = told.into_inner();
-    is_refused(task, status, &output, &told).expect(rt, "the end that is wanted")
+    let reported = reported.into_inner();
+    is_refused(task, status, &output, &reported).expect(rt, "the end that is wanted")
 }
 
 #[test]
 fn programs(rt: HostRuntime) {
     for task in &TASKS {
         if end_once(&rt, rt.alloc(), task) {
-            tell(&rt, "run_program");
+            print_call(&rt, "run_program");
             assert!(rt; !end_once(&rt, rt.alloc(), task));
         }
     }

@@ -1,5 +1,5 @@
 //! Runs of scripts by workers, and checks of journals: without memory nothing is written, and the next run is complete.
-use crate::memory::devices::{Compares, tell};
+use crate::memory::devices::{Compares, print_call};
 use std::alloc::Global;
 use std::process::Abort;
 use std::thread::Threads;
@@ -64,7 +64,7 @@ fn run_at_last<T: Threads + Sync + Abort + Print>(
 ) {
     let settings = Settings::new(3, 16, 3, report).expect(rt, "within the limits");
     if run_once(rt, alloc, &settings, text) {
-        tell(rt, "run");
+        print_call(rt, "run");
         assert!(rt; !run_once(rt, alloc, &settings, text));
     }
 }
@@ -89,7 +89,7 @@ fn check_once(rt: &impl Abort, alloc: Global, journal: &[u8], text: &'static [u8
 /// Checks a journal, at the second try at the latest.
 fn check_at_last(rt: &(impl Abort + Print), alloc: Global, journal: &[u8], text: &'static [u8]) {
     if check_once(rt, alloc, journal, text) {
-        tell(rt, "check_run");
+        print_call(rt, "check_run");
         assert!(rt; !check_once(rt, alloc, journal, text));
     }
 }

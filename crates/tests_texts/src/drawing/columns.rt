@@ -22,8 +22,8 @@ fn all(number: u64) -> Numbers {
 }
 
 // The column at this index, counted from 0.
-pub(crate) fn at(rt: &impl Abort, told: &[Column], place: usize) -> Column {
-    *told.get(place).expect(rt, "a column")
+pub(crate) fn at(rt: &impl Abort, reported: &[Column], place: usize) -> Column {
+    *reported.get(place).expect(rt, "a column")
 }
 
 #[test]
@@ -53,10 +53,10 @@ fn many_columns(rt: &impl Abort, alloc: Global) -> Columns {
     columns
 }
 
-fn expect_folded(rt: &impl Abort, told: &[Column]) {
-    expect_equal(rt, told.len(), 301);
-    assert!(rt; told.len() <= MAX_COLUMNS);
-    let second = at(rt, told, 1);
+fn expect_folded(rt: &impl Abort, reported: &[Column]) {
+    expect_equal(rt, reported.len(), 301);
+    assert!(rt; reported.len() <= MAX_COLUMNS);
+    let second = at(rt, reported, 1);
     let queue = Span {
         least: 8,
         greatest: 15,
@@ -67,7 +67,7 @@ fn expect_folded(rt: &impl Abort, told: &[Column]) {
         least: 2400,
         greatest: 2400,
     };
-    expect_equal(rt, at(rt, told, 300).given, given);
+    expect_equal(rt, at(rt, reported, 300).given, given);
 }
 
 #[test]

@@ -88,16 +88,16 @@ fn expect_split_numbers(rt: &impl Abort, node: &NodeSeries) {
     expect_equal(rt, (numbers.held, numbers.given), (256, 256));
 }
 
-fn expect_split_columns(rt: &impl Abort, told: &[Column]) {
-    expect_equal(rt, at(rt, told, 3).queue, once(1));
-    expect_equal(rt, at(rt, told, 4).in_batches, once(1));
-    expect_equal(rt, at(rt, told, 3).wait, once(1));
-    expect_equal(rt, at(rt, told, 4).wait, once(2));
-    expect_equal(rt, at(rt, told, 5).wait, once(0));
-    expect_equal(rt, at(rt, told, 3).callers, 0);
-    expect_equal(rt, at(rt, told, 4).callers, 1);
-    expect_equal(rt, at(rt, told, 4).pages[Stage::InBatch as usize], 1);
-    expect_equal(rt, at(rt, told, 5).held, once(256));
+fn expect_split_columns(rt: &impl Abort, reported: &[Column]) {
+    expect_equal(rt, at(rt, reported, 3).queue, once(1));
+    expect_equal(rt, at(rt, reported, 4).in_batches, once(1));
+    expect_equal(rt, at(rt, reported, 3).wait, once(1));
+    expect_equal(rt, at(rt, reported, 4).wait, once(2));
+    expect_equal(rt, at(rt, reported, 5).wait, once(0));
+    expect_equal(rt, at(rt, reported, 3).callers, 0);
+    expect_equal(rt, at(rt, reported, 4).callers, 1);
+    expect_equal(rt, at(rt, reported, 4).pages[Stage::InBatch as usize], 1);
+    expect_equal(rt, at(rt, reported, 5).held, once(256));
 }
 
 #[test]
@@ -133,7 +133,7 @@ fn expect_stopped(rt: &impl Abort, node: NodeSeries, before: &Numbers)
 }
 
 #[test]
-fn node_series_tells_what_was_before_an_illegal_event(rt: HostRuntime) {
+fn node_series_reports_what_was_before_an_illegal_event(rt: HostRuntime) {
     let node = followed(&rt, rt.alloc(), &first_run());
     let before = node.numbers();
     expect_stopped(&rt, node, &before);
@@ -166,7 +166,7 @@ fn expect_stuck(rt: &impl Abort, alloc: Global, node: &NodeSeries) {
 }
 
 #[test]
-fn node_series_tells_stuck_pages(rt: HostRuntime) {
+fn node_series_reports_stuck_pages(rt: HostRuntime) {
     let node = followed(&rt, rt.alloc(), &pinned_run());
     expect_stuck(&rt, rt.alloc(), &node);
     // a call has a shorter proof than a drop at the end of the scope

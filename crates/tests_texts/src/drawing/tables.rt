@@ -68,7 +68,7 @@ fn illegal_node(rt: &impl Abort, alloc: Global) -> DrawnNode {
 }
 
 #[test]
-fn table_tells_the_illegal_event(rt: HostRuntime) {
+fn table_reports_the_illegal_event(rt: HostRuntime) {
     let text = table_of(&rt, rt.alloc(), &[illegal_node(&rt, rt.alloc())]);
     assert!(rt; text.as_slice().ends_with(ILLEGAL));
 }

@@ -48,8 +48,11 @@ fn is_whole(script: &ScriptSections) -> bool {
 fn parts_of_each_length(rt: HostRuntime) {
     let settings = Settings::new(1, 16, 1, Report::Totals).expect(&rt, "within the limits");
     for size in 1..60 {
-        let told = by_parts(rt.alloc(), &settings, SCRIPT, size);
-        assert!(rt; matches!(&told, Ok(script) if is_whole(script)), "{size}");
+        let reported = by_parts(rt.alloc(), &settings, SCRIPT, size);
+        assert!(rt;
+            matches!(&reported, Ok(script) if is_whole(script)),
+            "{size}"
+        );
     }
 }
 
@@ -58,9 +61,9 @@ fn first_fault_of_parts(rt: HostRuntime) {
     let settings = Settings::new(1, 16, 1, Report::Totals).expect(&rt, "within the limits");
     let text = b"setup\nalloc 0\nalloc 9\nfly\nworker 1";
     for size in 1..36 {
-        let told = by_parts(rt.alloc(), &settings, text.as_slice(), size);
+        let reported = by_parts(rt.alloc(), &settings, text.as_slice(), size);
         let is_first = matches!(
-            told,
+            reported,
             Err(ReadFault::Text {
                 line: 3,
                 kind: TextKind::BadNumber

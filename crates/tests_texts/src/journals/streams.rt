@@ -135,7 +135,7 @@ fn least_version_is_the_journal_text(rt: HostRuntime) {
 }
 
 #[test]
-fn later_version_tells_more(rt: HostRuntime) {
+fn later_version_reports_more(rt: HostRuntime) {
     let events = [taken(ZERO)];
     let Ok(text) = written(rt.alloc(), Version::Underused, &large(16), &events) else {
         panic!(rt; "a fault");

@@ -73,8 +73,14 @@ fn first_fault_of_parts(rt: HostRuntime) {
             kind: TextKind::BadWord,
         };
         let found = found_by_parts(LongCheck::of_input(rt.alloc()), text.as_slice(), size);
-        assert!(rt; matches!(found, Some(Err(told)) if told == fault), "{size}");
+        assert!(rt;
+            matches!(found, Some(Err(reported)) if reported == fault),
+            "{size}"
+        );
         let found = found_by_parts(LongCheck::new(rt.alloc()), text.as_slice(), size);
-        assert!(rt; matches!(found, Some(Err(told)) if told == fault), "{size}");
+        assert!(rt;
+            matches!(found, Some(Err(reported)) if reported == fault),
+            "{size}"
+        );
     }
 }

@@ -41,7 +41,7 @@ fn rows_are_legal(rt: HostRuntime) {
 }
 
 #[test]
-fn the_first_illegal_event_of_the_text_is_told(rt: HostRuntime) {
+fn the_first_illegal_event_of_the_text_is_reported(rt: HostRuntime) {
     let second_node =
         b"thp-journal 1\nnode 0 blocks 4\n0 close\nnode 1 blocks 4\n0 pin 0\n0 pin 0\nend\n";
     expect_equal(&rt, answer(rt.alloc(), second_node), Some(Some(5)));

@@ -127,8 +127,8 @@ fn settings_of(rt: &impl Abort, nodes: &[Node], report: Report) -> Settings {
 }
 
 fn expect_text(rt: &impl Abort, text: &[u8], want: &str) {
-    let told = str::from_utf8(text).expect(rt, "a report of text");
-    assert!(rt; told == want);
+    let reported = str::from_utf8(text).expect(rt, "a report of text");
+    assert!(rt; reported == want);
 }
 
 fn expect_report(

@@ -21,7 +21,7 @@ fn the_first_run_gives_half_of_a_page_back(rt: HostRuntime) {
 
 // The tenth line is that of the nodes with the switch on; each node's lines have its number.
 #[test]
-fn an_underused_page_is_told_by_a_tenth_line(rt: HostRuntime) {
+fn an_underused_page_is_reported_by_a_tenth_line(rt: HostRuntime) {
     let nodes = [EMPTY, UNDERUSED_PINNED];
     let want =
         "node 0\npages 0\nqueue 0\nframes_held 0\nframes_given 0\nthp_split_page 0\nthp_split_page_failed 0\nthp_deferred_split_page 0\nthp_split_pmd 0\nnode 1\npages 2\nqueue 0\nframes_held 6\nframes_given 2\nthp_split_page 1\nthp_split_page_failed 1\nthp_deferred_split_page 0\nthp_split_pmd 1\nthp_underused_split_page 1\n";

@@ -5,7 +5,7 @@ ghost use Rattle.thp_history.specs.Refusals as call;
 ghost use Rattle.thp_node.specs.Batches.{back_reply, scan_reply, IsInFront, FrontsStay};
 ghost use Rattle.thp_node.specs.Calls.{Did, Refused};
 ghost use Rattle.thp_live_pages.specs.Prelude.{block_of, IsFlyingAt};
-ghost use Rattle.thp_node.specs.Scanning.{used_count, events_after, is_used};
+ghost use Rattle.thp_node.specs.Scanning.{used_count, events_after, is_tried_used};
 ghost use Rattle.thp_node.specs.Returning.{BeginsIn, return_first, OneBack};
 
 use crate::answers::{BackReply, ScanReply, Tried};
@@ -175,7 +175,7 @@ impl<R: Recorder> Node<R> {
         requires flies { flight self.old.journal batch.old.caller ≡ batch.old.pages }
         requires untried { batch.old.place ≡ 0 }
         requires room { length batch.old.pages ≤ self.old.room }
-        ensures used { result ≡ count_by (is_used self.old.shape self.old.journal) batch.old.pages }
+        ensures used { result ≡ count_by (is_tried_used self.old.shape self.old.journal) batch.old.pages }
         ensures did { Did self.old self.new batch.old.caller (map (try_event self.old.shape self.old.journal batch.old.caller) batch.old.pages) }
         ensures same_caller { batch.new.caller ≡ batch.old.caller }
         ensures same_pages { batch.new.pages ≡ batch.old.pages }

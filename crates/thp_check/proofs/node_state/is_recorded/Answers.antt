@@ -1,6 +1,6 @@
 use Rattle.std.proofs.Common.{◌≡◌, inl, inr, rules, ap, sym, ◌∙◌}
 use Rattle.thp_history.proofs.WordLemmas.{same_set-Decides}
-use Rattle.thp_check.proofs.PageEvents.{frames_in, outcome_in, told_by}
+use Rattle.thp_check.proofs.PageEvents.{frames_in, outcome_in, reported_by}
 use Rattle.thp_check.proofs.node_state.is_recorded.Goals as goal
 
 pub returns-then-eq : goal.returns-then-eq
@@ -21,9 +21,9 @@ returns-then-eq c = λ l p o set is.
         | inr w ↦ ap frames_in w.1
       ]
     ] in
-    let told = told_by l p o set in
-    let o_is : c.in-UnmapWhole.outcome ≡ o = sym outcome ∙ ap outcome_in is ∙ told.0 in
-    let set_is : c.in-UnmapWhole.released ≡ set = sym frames ∙ ap frames_in is ∙ told.1 in
+    let reported = reported_by l p o set in
+    let o_is : c.in-UnmapWhole.outcome ≡ o = sym outcome ∙ ap outcome_in is ∙ reported.0 in
+    let set_is : c.in-UnmapWhole.released ≡ set = sym frames ∙ ap frames_in is ∙ reported.1 in
     let same = same_set-Decides c.args.done.now.released c.in-UnmapWhole.released in (
       λ e. ((search rules) ∙ o_is, same.0 (sym c.eq-then-eq.ensures ∙ e) ∙ set_is),
       λ w. c.eq-then-eq.ensures ∙ same.1 (w.1 ∙ sym set_is),

@@ -1,6 +1,6 @@
 use Rattle.std.proofs.Common.{◌≡◌, ◌∙◌, ◌+◌, ◌++◌, ◌∷◌, ℕ, Bool, List, ap, drop, length, refl, sym}
 use Rattle.thp_metrics.specs.declared.column.Column.{Column}
-use Rattle.thp_drawing.specs.Bars.{bar_lines, covers, line_turn}
+use Rattle.thp_drawing.specs.Bars.{bar_covers, bar_lines, line_turn}
 use Rattle.thp_drawing.specs.Scales.{scaled}
 use Rattle.thp_drawing.specs.declared.bar.Bar.{Bar}
 use Rattle.thp_drawing.proofs.Walks.{piece_put, same_place}
@@ -8,7 +8,7 @@ use Rattle.thp_drawing.proofs.bar.put_bar.Goals as goal
 
 -- the lines of a bar from column j on
 lines_at : (bar : Bar) (y n j : ℕ) (before now : Bool) (cs : List Column) (x : Column) {edge : ℕ} →
-    now ≡ covers bar x → edge ≡ scaled 6000 j n → drop j cs ≡ x ∷ drop (j + 1) cs →
+    now ≡ bar_covers bar x → edge ≡ scaled 6000 j n → drop j cs ≡ x ∷ drop (j + 1) cs →
     bar_lines bar y n j before (drop j cs) ≡ line_turn y edge before now ++ bar_lines bar y n (j + 1) now (drop (j + 1) cs)
 lines_at bar y n j before now cs x is place cut =
     let more = drop (j + 1) cs in

@@ -5,7 +5,7 @@ use Rattle.thp_drawing.specs.Panels.{panels_drawn, panels_of}
 use Rattle.thp_drawing.specs.Pictures.{node_drawn}
 use Rattle.thp_drawing.specs.Scales.{plus}
 use Rattle.thp_drawing.specs.Stucks.{stuck_text}
-use Rattle.thp_drawing.specs.Titles.{node_words}
+use Rattle.thp_drawing.specs.Titles.{node_title_words}
 use Rattle.thp_drawing.proofs.Pieces.{seven}
 use Rattle.thp_drawing.proofs.picture.put_node.Goals as goal
 
@@ -21,7 +21,7 @@ unfolding node_drawn
 returns c =
     let d = c.args.node.now in
     let P : List ℕ → Type 0 = λ t. OnOk c.put.result (c.put.new.text.items ≡ t) in
-    let words = c.as_slice.ensures.value ∙ c.in_ok-put_node_words.ensures ∙ ap (λ (x : List ℕ). x ++ node_words c.args.number d) c.new-words.ensures.items in
+    let words = c.as_slice.ensures.value ∙ c.in_ok-put_node_words.ensures ∙ ap (λ (x : List ℕ). x ++ node_title_words c.args.number d) c.new-words.ensures.items in
     let stuck = c.plus.ensures ∙ ap (λ (z : ℕ). plus z 140) c.stuck_top.ensures in
     let axis = c.plus-2.ensures ∙ ap (λ (z : ℕ). plus z 110) c.axis_top.ensures in
     let title = c.in_ok-put_text.ensures ∙ ap (λ (x : List ℕ). c.put_group.new.text.items ++ text_at (codes "ink h") 150 240 x) words in

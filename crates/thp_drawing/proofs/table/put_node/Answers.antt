@@ -1,6 +1,6 @@
 use Rattle.std.proofs.Common.{◌≡◌, ◌∙◌, ◌+◌, ◌-◌, ◌*◌, ◌++◌, ◌∷◌, ◌≤◌, ℕ, List, ap, arith, drop, length, min, refl, sym}
 use Rattle.thp_metrics.specs.declared.column.Column.{Column}
-use Rattle.thp_drawing.specs.Tables.{column_line, column_lines, node_line, node_lines, stuck_lines}
+use Rattle.thp_drawing.specs.Tables.{column_line, column_lines, node_lines, node_table_line, stuck_table_lines}
 use Rattle.thp_drawing.proofs.Pieces.{three}
 use Rattle.thp_drawing.proofs.Walks.{all_walked, piece_put, same_place}
 use Rattle.thp_drawing.proofs.table.put_node.Goals as goal
@@ -31,7 +31,7 @@ loop-page-init c =
     let d = c.args.node.now in
     let j = c.loop-place.place in
     let end : length d.columns.items ≤ j = omega (arith, c.loop-place-test.false, ap length c.deref-column-items.ensures.value) in
-    ap (λ (x : List ℕ). x ++ stuck_lines c.args.number d.stuck.items)
+    ap (λ (x : List ℕ). x ++ stuck_table_lines c.args.number d.stuck.items)
     (all_walked (column_lines c.args.number d.width d.prefixes j) d.columns.items j _ end refl c.loop-place.invariant)
 
 pub returns : goal.returns
@@ -40,5 +40,5 @@ returns c =
     let d = c.args.node.now in
     let i = c.loop-page.page-index in
     let end : length d.stuck.items ≤ i = omega (arith, c.loop-page-test.false, ap length c.deref-page-items.ensures.value) in
-    all_walked (stuck_lines c.args.number) d.stuck.items i _ end refl c.loop-page.invariant
-    ∙ three c.args.text.now.items (node_line c.args.number d) (column_lines c.args.number d.width d.prefixes 0 d.columns.items) (stuck_lines c.args.number d.stuck.items)
+    all_walked (stuck_table_lines c.args.number) d.stuck.items i _ end refl c.loop-page.invariant
+    ∙ three c.args.text.now.items (node_table_line c.args.number d) (column_lines c.args.number d.width d.prefixes 0 d.columns.items) (stuck_table_lines c.args.number d.stuck.items)

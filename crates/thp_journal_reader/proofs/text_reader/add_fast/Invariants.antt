@@ -1,17 +1,17 @@
 use Rattle.std.proofs.Common.{◌≡◌, ◌≤◌, ◌++◌, [], length}
-use Rattle.thp_script.specs.Prelude.{told_after, IsCounted, Text}
-use Rattle.thp_journal_reader.specs.Prelude.{lines_tell}
+use Rattle.thp_script.specs.Prelude.{result_after, IsCounted, Text}
+use Rattle.thp_journal_reader.specs.Prelude.{result_of_lines}
 use Rattle.thp_journal_reader.proofs.text_reader.add_fast.Given as goal
 
 abbrev pub decreases-loop-event : goal.decreases-loop-event
 decreases-loop-event g l = length l.rest
 
--- what was read, with what is left, tells what it told before
+-- what was read, with what is left, reports what it reported before
 abbrev pub invariant-loop-event : goal.invariant-loop-event
 invariant-loop-event g l =
-    let told = g.N.KeepsNodes.told in
+    let reported = g.N.KeepsNodes.reported in
     record {
-      tells : (more : Text) → told_after l.text more (lines_tell (told l.nodes) l.fn.place l.text.line (l.text.begun ++ (l.rest ++ more))) ≡ told_after l.fn.text more (lines_tell (told l.fn.nodes) l.fn.place l.fn.text.line (l.fn.text.begun ++ (l.part ++ more)));
+      reports : (more : Text) → result_after l.text more (result_of_lines (reported l.nodes) l.fn.place l.text.line (l.text.begun ++ (l.rest ++ more))) ≡ result_after l.fn.text more (result_of_lines (reported l.fn.nodes) l.fn.place l.fn.text.line (l.fn.text.begun ++ (l.part ++ more)));
       counted : IsCounted l.rest l.text;
       along : g.N.KeepsNodes.goes_along l.text.line l.nodes;
       begins : l.text.begun ≡ [];

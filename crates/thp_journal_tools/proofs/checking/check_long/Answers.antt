@@ -3,7 +3,7 @@ use Rattle.std.proofs.lemmas.Result.{err_from_is_err_and}
 use Rattle.thp_cli.specs.declared.fault.RunFault.{RunFault}
 use Rattle.thp_journal_tools.specs.Checks.{found_in, IsCheckOf}
 use Rattle.thp_journal_tools.specs.declared.checking.CheckFinding.{CheckFinding}
-use Rattle.thp_journal_tools.proofs.CheckLaws.{check_of, check_of_input, cut_from, ends_at_find, ends_at_write, ends_told, none_at_find}
+use Rattle.thp_journal_tools.proofs.CheckLaws.{check_of, check_of_input, cut_from, ends_at_find, ends_at_write, ends_reported, none_at_find}
 use Rattle.thp_journal_tools.proofs.checking.check_long.Goals as goal
 
 pub returns-in_err-found-clause-ends : goal.returns-in_err-found-clause-ends
@@ -31,7 +31,7 @@ returns-in_err-ok_or-clause-ends g c =
 pub returns-clause-ends : goal.returns-clause-ends
 returns-clause-ends g c =
     let found = c.in_ok-found.ensures.found in
-    ends_told (IsCheckOf c.args.options) (check_of_input c.args.options) (g.R.Read.remaining c.args.reader.now.device) found.0 found.1 (g.W.Write.contents c.args.writer.now.device) (g.W.Write.contents c.write_text.new.writer.device)
+    ends_reported (IsCheckOf c.args.options) (check_of_input c.args.options) (g.R.Read.remaining c.args.reader.now.device) found.0 found.1 (g.W.Write.contents c.args.writer.now.device) (g.W.Write.contents c.write_text.new.writer.device)
     c.find.new.reader.failed c.write_text.new.writer.failed c.in_ok-found.found.illegal c.as_slice.result.now c.write_text.result c.in_ok-ok_or.field-0
     (check_of c.args.options found.0 c.as_slice.result.now c.in_ok-found.found found.2 (c.as_slice.ensures.value ∙ c.in_ok-text.ensures))
     (sym c.ok_or.ensures.value ∙ c.in_ok-ok_or.was) c.write_text.ensures.written c.write_text.ensures.flag c.in_ok-found.ensures.flag

@@ -1,7 +1,7 @@
 use Rattle.std.proofs.Common.{◌∙◌, ◌++◌, [], Bool, ap, subst, sym, Result, append-nil}
 use Rattle.thp_script.specs.Prelude.{max_counted, Fault}
 use Rattle.thp_journal_reader.specs.declared.journals.ReadJournals.{ReadJournals}
-use Rattle.thp_journal_reader.specs.Prelude.{journals_within, ReportsLongReadFault, IsKept}
+use Rattle.thp_journal_reader.specs.Prelude.{journals_within, ReportsLongReadFault, IsStored}
 use Rattle.thp_journal_reader.proofs.FollowLaws.{ended_kept}
 use Rattle.thp_journal_reader.proofs.ZipLaws.{zip_weaker}
 use Rattle.thp_journal_tools.specs.Checks.{AreTotals}
@@ -15,7 +15,7 @@ pub returns-in_err-illegal-clause-fault : goal.returns-in_err-illegal-clause-fau
 returns-in_err-illegal-clause-fault g c =
     let read = c.in_ok-check.ensures.parts in
     let fault = c.in_err-illegal.field-0.0 in
-    let P : Result ReadJournals Fault → Type 0 = λ told. ReportsLongReadFault told fault in
+    let P : Result ReadJournals Fault → Type 0 = λ reported. ReportsLongReadFault reported fault in
     err_at_summary (g.R.Read.remaining c.args.reader.now.device) read.0 read.1 c.read_journal.new.reader.failed c.in_ok-check.ensures.flag fault
     c.from_residual-in_err-illegal.result c.from_residual-in_err-illegal.ensures.1
     (subst P (read.2.text [] ∙ c.new-check.ensures (read.0 ++ []) ∙ ap (journals_within max_counted) (append-nil read.0)) c.in_err-illegal.ensures.fault)
@@ -31,7 +31,7 @@ returns-then-options-clause-found g c =
         journals = kept.0;
         spelled = sym (read.2.text [] ∙ c.new-check.ensures (read.0 ++ []) ∙ ap (journals_within max_counted) (append-nil read.0)) ∙ kept.1;
         first = kept.2.0;
-        totals_are = subst T (sym c.if-options.true) (zip_weaker (IsKept KeepsTotals) IsSummary kept.0.nodes _ as_summary (ended_kept KeepsTotals kept.0.nodes _ _ kept.2));
+        totals_are = subst T (sym c.if-options.true) (zip_weaker (IsStored KeepsTotals) IsSummary kept.0.nodes _ as_summary (ended_kept KeepsTotals kept.0.nodes _ _ kept.2));
       },
     )
 

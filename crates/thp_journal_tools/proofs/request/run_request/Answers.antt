@@ -7,7 +7,7 @@ returns-in-Ok-clause-finishes g c = record {
   end = Ok c.in-Ok.done.ending;
   notes = notes_by (Ok c.in-Ok.done);
   served = c.in-Ok.ensures.served;
-  told = (c.note.ensures, c.status_of_ending.ensures);
+  reported = (c.note.ensures, c.status_of_ending.ensures);
 }
 
 pub returns-clause-finishes : goal.returns-clause-finishes
@@ -15,5 +15,5 @@ returns-clause-finishes g c = record {
   end = Err c.in-Err.fault;
   notes = None;
   served = c.in-Err.ensures.served;
-  told = rw (← c.program.ensures) c.tell.ensures;
+  reported = rw (← c.program.ensures) c.report_fault.ensures;
 }

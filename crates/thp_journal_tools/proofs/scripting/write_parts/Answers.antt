@@ -13,7 +13,7 @@ with_text a b c t u before more = subst (λ x. Appends a c x) (sym more.1) (appe
 
 pub loop-count-init : goal.loop-count-init
 loop-count-init g c = record {
-  taken = ([], read_nothing (g.R.Read.remaining c.args.reader.now.device), omega arith, λ more. c.new-check.ensures.tells more);
+  taken = ([], read_nothing (g.R.Read.remaining c.args.reader.now.device), omega arith, λ more. c.new-check.ensures.reports more);
   flag = c.requires.reader;
   calls = reading_none max_counted c.args.reader.now.calls;
   grows = grows_none (g.W.Write.contents c.args.writer.now.device);

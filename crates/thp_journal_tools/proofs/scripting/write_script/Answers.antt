@@ -3,7 +3,7 @@ use Rattle.std.specs.Io.KnownBytes.{Appends}
 use Rattle.thp_script.specs.Prelude.{Fault}
 use Rattle.thp_journal_reader.specs.declared.journals.ReadJournals.{ReadJournals}
 use Rattle.thp_journal_reader.specs.Prelude.{ReportsLongReadFault}
-use Rattle.thp_journal_tools.proofs.ScriptLaws.{appends_kept, appends_more, cut_end, end_at_fault, end_at_finish, err_is, grows_by, grows_kept, grows_more, is_err, told_from}
+use Rattle.thp_journal_tools.proofs.ScriptLaws.{appends_kept, appends_more, cut_end, end_at_fault, end_at_finish, err_is, grows_by, grows_kept, grows_more, is_err, reported_from}
 use Rattle.thp_journal_tools.proofs.scripting.write_script.Goals as goal
 
 pub returns-in_err-check-clause-ends : goal.returns-in_err-check-clause-ends
@@ -18,7 +18,7 @@ pub returns-in_err-scripted-clause-ends : goal.returns-in_err-scripted-clause-en
 returns-in_err-scripted-clause-ends g c =
     let read = c.in_ok-check.ensures.parts in
     let fault = c.in_err-scripted.field-0.0 in
-    let P : Result ReadJournals Fault → Type 0 = λ told. ReportsLongReadFault told fault in (
+    let P : Result ReadJournals Fault → Type 0 = λ reported. ReportsLongReadFault reported fault in (
       c.write_parts.ensures.grows,
       end_at_finish (g.R.Read.remaining c.args.reader.now.device) (g.W.Write.contents c.args.writer.now.device) (g.W.Write.contents c.write_parts.new.writer.device) read.0 read.1 c.write_parts.new.reader.failed c.write_parts.new.writer.failed
           c.in_ok-check.ensures.flags.0 c.in_ok-check.ensures.flags.1 fault c.from_residual-in_err-scripted.result c.from_residual-in_err-scripted.ensures.1 (subst P read.2 c.in_err-scripted.ensures.fault),
@@ -56,7 +56,7 @@ returns-clause-ends g c =
     let read = c.in_ok-check.ensures.parts in
     let scripted = c.in_ok-scripted.ensures.scripted in
     let rest : List ℕ = c.in_ok-scripted.scripted.text.items in
-    let written = told_from c.write_all.result c.in_ok-ok_or.field-0 (Appends (contents c.write_parts.new.writer.device) (contents c.write_all.new.writer.device) c.as_slice.result.now)
+    let written = reported_from c.write_all.result c.in_ok-ok_or.field-0 (Appends (contents c.write_parts.new.writer.device) (contents c.write_all.new.writer.device) c.as_slice.result.now)
     (sym c.ok_or.ensures.value ∙ c.in_ok-ok_or.was) c.write_all.ensures.written in
     let all = appends_kept (contents c.args.writer.now.device) (contents c.write_all.new.writer.device) (contents c.flush.new.self.device) (c.in_ok-check.check.taken ++ rest)
     (appends_more (contents c.args.writer.now.device) (contents c.write_parts.new.writer.device) (contents c.write_all.new.writer.device) c.in_ok-check.check.taken rest c.in_ok-check.ensures.text
@@ -71,6 +71,6 @@ returns-clause-ends g c =
           record { journals = scripted.0; spelled = sym read.2 ∙ scripted.1; first = scripted.2.first; script = scripted.2.script },
         ),
         c.in_ok-check.ensures.flags.0,
-        told_from c.flush.result c.in_ok-ok_or-2.field-0 (c.flush.new.self.failed ≡ false) (sym c.ok_or-2.ensures.value ∙ c.in_ok-ok_or-2.was) (search rules),
+        reported_from c.flush.result c.in_ok-ok_or-2.field-0 (c.flush.new.self.failed ≡ false) (sym c.ok_or-2.ensures.value ∙ c.in_ok-ok_or-2.was) (search rules),
       ),
     )

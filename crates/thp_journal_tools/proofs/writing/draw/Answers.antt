@@ -3,7 +3,7 @@ use Rattle.thp_cli.specs.declared.fault.RunFault.{RunFault}
 use Rattle.thp_cli.specs.Prelude.{device_of, source_of}
 use Rattle.thp_cli.specs.declared.ending.ProgramFault.TheVariants.{Run}
 use Rattle.thp_journal_tools.specs.Drawings.{Shows}
-use Rattle.thp_journal_tools.specs.DrawOutcomes.{Does}
+use Rattle.thp_journal_tools.specs.DrawOutcomes.{DrawIsDone}
 use Rattle.thp_journal_tools.proofs.CheckLaws.{cut_from}
 use Rattle.thp_journal_tools.proofs.DrawLaws.{cut, does_err, drawn, no_output, none_found}
 use Rattle.thp_journal_tools.proofs.writing.draw.Goals as goal
@@ -37,7 +37,7 @@ returns-in_err-ok_or-clause-does g c =
     subst (λ (t : List ℕ). Shows options.table options.node c.in_ok-nodes.nodes.items c.in_ok-output.output.ending t) (sym c.as_slice-2.ensures.value) (rw c.as_slice.ensures.value at c.in_ok-output.ensures.output) in
     let why = cut_from c.write_text.result c.in_err-ok_or.field-0.0 (sym c.ok_or.ensures.value ∙ c.in_err-ok_or.was) in
     does_err options input output (Run c.in_err-ok_or.field-0.0) c.from_residual-in_err-ok_or.result c.from_residual-in_err-ok_or.ensures.1
-    (subst (λ (f : RunFault ℕ). Does options input output (Err (Run f))) why.1
+    (subst (λ (f : RunFault ℕ). DrawIsDone options input output (Err (Run f))) why.1
     (cut options input output c.find_nodes.ensures.calls c.in_ok-nodes.ensures.flag found.0 text c.in_ok-nodes.nodes.items c.in_ok-output.output.ending found.1 found.2 shown c.write_text.ensures.calls c.write_text.result
     why.0 c.write_text.ensures.cut c.write_text.ensures.failed))
 

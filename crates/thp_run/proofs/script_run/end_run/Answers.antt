@@ -1,6 +1,6 @@
 use Rattle.std.proofs.Common.{◌∙◌, ◌++◌, rules, subst, sym, All}
 use denote.Param.Send.{param_send, arg_send}
-use Rattle.thp_worker.specs.Prelude.{DidFirst, fronts_in, IsCommandFor}
+use Rattle.thp_worker.specs.Prelude.{DidFirst, fronts_in, IsWorkFor}
 use Rattle.thp_worker.proofs.Crosses.{node_passes_send}
 use Rattle.thp_run.specs.Sharing.{AreFew}
 use Rattle.thp_run.proofs.BegunRunLaws.{begun_all, begun_nodes, begun_runs, begun_set_up}
@@ -12,7 +12,7 @@ do_commands-requires-clause-commands g c =
     let s = c.args.settings.now in
     let b = c.requires.begun.4 in
     let nodes = begun_nodes s c.requires.begun.0 c.requires.begun.1 c.requires.begun.2 c.requires.begun.3 (fronts_in c.args.passes) c.args.setup b in
-    rw c.as_slice.ensures (subst (λ k. All (IsCommandFor k) c.args.script.setup) (sym nodes) (commands_fit s.nodes c.args.script.setup c.requires.script.setup_commands))
+    rw c.as_slice.ensures (subst (λ k. All (IsWorkFor k) c.args.script.setup) (sym nodes) (commands_fit s.nodes c.args.script.setup c.requires.script.setup_commands))
 
 pub end_section-requires-clause-section : goal.end_section-requires-clause-section
 end_section-requires-clause-section g c =

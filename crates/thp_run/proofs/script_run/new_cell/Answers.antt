@@ -5,7 +5,7 @@ use Rattle.std.proofs.lemmas.List.{get_or_default}
 use Rattle.thp_history.specs.declared.shape.Shape.{Shape}
 use Rattle.thp_history.specs.Prelude.{max_order}
 use Rattle.thp_cell.specs.Prelude.{HasAll, PassState}
-use Rattle.thp_run.specs.Sharing.{IsFresh}
+use Rattle.thp_run.specs.Sharing.{IsFreshPass}
 use Rattle.thp_run.proofs.script_run.new_cell.Goals as goal
 
 -- what a call returns on success is kept where only its error is replaced
@@ -18,7 +18,7 @@ kept (Err e) (Err d) Q P cases same holds = tt
 -- a new pass is fresh
 is_fresh : {A E : Type 0} (s : Result (A × PassState) E) (callers : ℕ) (journal : List Event) →
     IfOk s (λ r. r.1.callers ≡ callers) → IfOk s (λ r. HasAll r.1) → IfOk s (λ r. r.1.front ≡ journal) →
-    journal ≡ [] → IfOk s (λ r. IsFresh callers r.1)
+    journal ≡ [] → IfOk s (λ r. IsFreshPass callers r.1)
 is_fresh (Err e) callers journal are all front none = tt
 is_fresh (Ok r) callers journal are all front none =
     record { whole = record { callers_are = are; first_is = all.from; end_is = all.to ∙ are }; front = front ∙ none }

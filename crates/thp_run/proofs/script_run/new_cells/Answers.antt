@@ -2,8 +2,8 @@ use Rattle.std.proofs.Common.{◌≡◌, ◌∙◌, ◌+◌, ◌++◌, [], lengt
 use Rattle.std.proofs.lemmas.List.{map-append}
 use Rattle.std.proofs.lemmas.List.Elements.{All-push}
 use Rattle.thp_cell.specs.Prelude.{PassState}
-use Rattle.thp_run.specs.NewNodes.{shape_of}
-use Rattle.thp_run.specs.Sharing.{cell_of, IsFresh}
+use Rattle.thp_run.specs.NewNodes.{new_shape}
+use Rattle.thp_run.specs.Sharing.{cell_of, IsFreshPass}
 use Rattle.thp_run.proofs.NodeLaws.{each_more}
 use Rattle.thp_run.proofs.script_run.new_cells.Goals as goal
 
@@ -19,7 +19,7 @@ loop-index-preserved g c =
     rw c.in_ok-push-2.ensures.items
     (record {
       count = omega (arith, longer, inv.count);
-      shapes = each_more (λ n (p : PassState). p.shape ≡ shape_of s n) passes pass inv.shapes (c.in_ok-cell.ensures.shape ∙ ap (shape_of s) (sym inv.count));
-      fresh = All-push (IsFresh (s.workers + 1)) passes pass inv.fresh c.in_ok-cell.ensures.fresh;
+      shapes = each_more (λ n (p : PassState). p.shape ≡ new_shape s n) passes pass inv.shapes (c.in_ok-cell.ensures.shape ∙ ap (new_shape s) (sym inv.count));
+      fresh = All-push (IsFreshPass (s.workers + 1)) passes pass inv.fresh c.in_ok-cell.ensures.fresh;
       cells = rw c.in_ok-push-2.ensures.items at more;
     })

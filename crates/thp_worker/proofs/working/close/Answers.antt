@@ -5,7 +5,7 @@ use Rattle.thp_worker.specs.Prelude.{Reaction, answer_of, no_progress, PutsBack}
 use Rattle.thp_worker.proofs.StepLaws.{goes_trans}
 use Rattle.thp_worker.proofs.CommandLaws.{cell_comes}
 use Rattle.thp_worker.proofs.SectionLaws.{room_for_one, ends_more, ends_stop, puts_back_comes, shut_more, shut_put, not_open, works_end, works_closing}
-use Rattle.thp_worker.proofs.working.close.Goals.{then-index+in_ok-told+in-Some, else-index}
+use Rattle.thp_worker.proofs.working.close.Goals.{then-index+in_ok-result_unless_busy+in-Some, else-index}
 use Rattle.thp_worker.proofs.working.close.Goals as goal
 
 -- a mark, as the code reads it
@@ -15,8 +15,8 @@ marked opened n r lt is =
     let two = slice_get-get_or opened n false lt in
     cc
 
-pub returns-in_err-told-clause-goes : goal.returns-in_err-told-clause-goes
-returns-in_err-told-clause-goes g c = goes_trans _ _ _ _ c.loop-node.invariant.goes c.do_command-called.ensures.goes
+pub returns-in_err-result_unless_busy-clause-goes : goal.returns-in_err-result_unless_busy-clause-goes
+returns-in_err-result_unless_busy-clause-goes g c = goes_trans _ _ _ _ c.loop-node.invariant.goes c.do_command-called.ensures.goes
 
 pub overflow_add-closed : goal.overflow_add-closed
 overflow_add-closed g c =
@@ -33,7 +33,7 @@ returns-in_default-clause-goes g c = goes_trans _ _ _ _ c.loop-node.invariant.go
 pub returns-in_default-clause-works : goal.returns-in_default-clause-works
 returns-in_default-clause-works g c =
     let inv = c.loop-node.invariant in
-    let back = rw (rw (not_there _ c.in_default.not-Some) at c.in_ok-told.ensures.busy) at (puts_back_comes _ _ _ _ c.do_command-called.new.begun (answer_of c.do_command-called.result c.do_command-called.new.reply) (rw c.no_progress-begun.ensures at c.do_command-called.ensures.proceeds)) in
+    let back = rw (rw (not_there _ c.in_default.not-Some) at c.in_ok-result_unless_busy.ensures.busy) at (puts_back_comes _ _ _ _ c.do_command-called.new.begun (answer_of c.do_command-called.result c.do_command-called.new.reply) (rw c.no_progress-begun.ensures at c.do_command-called.ensures.proceeds)) in
     λ old commands count e. rw inv.same (works_closing _ _ _ _ _ _ _ _ (rw count c.requires.room) (ends_stop _ c.loop-node.node _ _ _ _ _ _ _ no_progress (inv.ends old commands e) c.do_command-called.ensures.goes back) (sym count) refl)
 
 pub loop-node-preserved : goal.loop-node-preserved
@@ -44,13 +44,13 @@ loop-node-preserved g c =
     let who = c.args.worker in
     let node = c.loop-node.node in
     elim c.if-index.branch [
-      | then-index+in_ok-told+in-Some w ↦
+      | then-index+in_ok-result_unless_busy+in-Some w ↦
           let called = w.do_command-called in
           let new = fronts called.new.steps in
           let goes = called.ensures.goes in
           let said = w.in-Some.field-0 in
           let answer : Reaction = answer_of said called.new.reply in
-          let back = cell_comes no_progress (PutsBack who node mid new) called.result said called.new.reply (rw w.in-Some.is at w.in_ok-told.ensures.some) (rw w.in-Some.is at w.in_ok-told.ensures.memory) (puts_back_comes _ _ _ _ called.new.begun (answer_of called.result called.new.reply) (rw w.no_progress-begun.ensures at called.ensures.proceeds)) in
+          let back = cell_comes no_progress (PutsBack who node mid new) called.result said called.new.reply (rw w.in-Some.is at w.in_ok-result_unless_busy.ensures.some) (rw w.in-Some.is at w.in_ok-result_unless_busy.ensures.memory) (puts_back_comes _ _ _ _ called.new.begun (answer_of called.result called.new.reply) (rw w.no_progress-begun.ensures at called.ensures.proceeds)) in
           rw (w.steps-is, w.closed-is, w.opened-is) (record {
             goes = goes_trans _ _ _ _ inv.goes goes;
             ends = λ old commands e.

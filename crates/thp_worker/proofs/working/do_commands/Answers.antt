@@ -1,9 +1,9 @@
 use Rattle.std.proofs.Common.{◌≡◌, ◌∙◌, ◌+◌, ◌++◌, ap, arith, subst, length, length-append, rules, Some, slice_get, All, length-set}
 use Rattle.std.proofs.lemmas.List.Elements.{All-append}
-use Rattle.thp_worker.specs.Prelude.{IsCommandFor}
+use Rattle.thp_worker.specs.Prelude.{IsWorkFor}
 use Rattle.thp_worker.proofs.StepLaws.{goes_refl, goes_trans}
 use Rattle.thp_worker.proofs.ReadCommands.{read_at, read_fits}
-use Rattle.thp_worker.proofs.SectionLaws.{begins_longer, begins_told, get_after}
+use Rattle.thp_worker.proofs.SectionLaws.{begins_longer, begins_reported, get_after}
 use Rattle.thp_worker.proofs.working.do_commands.Goals as goal
 
 pub loop-index-init : goal.loop-index-init
@@ -27,7 +27,7 @@ returns-clause-did g c = λ old before d.
       begins = inv.begins old before d;
       each = omega (arith, inv.count, d.each, length-append before c.args.commands.now, c.loop-index-test.false);
       few = omega (arith, d.each, length-append before c.args.commands.now);
-      fit = All-append (IsCommandFor old.nodes) before c.args.commands.now d.fit (subst (λ k. All (IsCommandFor k) c.args.commands.now) d.begins.grows.same.nodes c.requires.commands);
+      fit = All-append (IsWorkFor old.nodes) before c.args.commands.now d.fit (subst (λ k. All (IsWorkFor k) c.args.commands.now) d.begins.grows.same.nodes c.requires.commands);
       room = omega (arith, inv.room, d.each, length-append before c.args.commands.now);
     }
 
@@ -45,7 +45,7 @@ loop-index-preserved g c =
           let number : length before + i ≡ c.len-first.result + i = omega (arith, inv.first, d.each) in
           let at : slice_get (before ++ commands) (c.len-first.result + i) ≡ Some command = rw (← number) (get_after before commands i command (read_at _ _ _ c.loop-index-test.true c.index-commands-index.is)) in
           rw (c.push.ensures.items, c.mark.ensures)
-          (begins_told _ (c.len-first.result + i) old _ _ _ _ _ _ _ command c.do_whole_command-called.result c.in-Some.said c.do_whole_command-called.new.reply at (omega (arith, inv.count, inv.first)) (inv.begins old before d) done.goes
+          (begins_reported _ (c.len-first.result + i) old _ _ _ _ _ _ _ command c.do_whole_command-called.result c.in-Some.said c.do_whole_command-called.new.reply at (omega (arith, inv.count, inv.first)) (inv.begins old before d) done.goes
           (rw inv.goes.same.nodes lt) (rw c.in-Some.is at c.in_ok-said.ensures.some) (rw c.in-Some.is at c.in_ok-said.ensures.memory) done.proceeds.1);
       nodes = ap length c.mark.ensures ∙ (length-set c.loop-index.section.opened.items command.node _ ∙ inv.nodes);
       count = omega (arith, c.push.ensures.count, inv.count);

@@ -2,7 +2,7 @@ use Rattle.std.proofs.Common.{◌≡◌, ◌∙◌, ap, arith, length, refl, rul
 use Rattle.thp_history.proofs.Options.{not_there}
 use Rattle.thp_worker.proofs.StepLaws.{goes_trans, goes_refl}
 use Rattle.thp_worker.proofs.ReadCommands.{read_at, read_fits}
-use Rattle.thp_worker.proofs.SectionLaws.{begun_on, begins_told, begins_stop, ends_first, works_stop}
+use Rattle.thp_worker.proofs.SectionLaws.{begun_on, begins_reported, begins_stop, ends_first, works_stop}
 use Rattle.thp_worker.proofs.working.go_on.Goals as goal
 
 pub do_command-called-requires-clause-ready : goal.do_command-called-requires-clause-ready
@@ -35,7 +35,7 @@ loop-index-preserved g c =
     record {
       goes = goes_trans _ _ _ _ inv.goes done.goes;
       begins = λ old b. rw (c.push.ensures.items, c.no_progress-begun.ensures, c.mark.ensures)
-          (begins_told _ i old _ _ _ _ _ _ _ command c.do_command-called.result c.in-Some.said c.do_command-called.new.reply (read_at _ _ _ c.loop-index-test.true c.index-commands-index.is) inv.count (inv.begins old b) done.goes
+          (begins_reported _ i old _ _ _ _ _ _ _ command c.do_command-called.result c.in-Some.said c.do_command-called.new.reply (read_at _ _ _ c.loop-index-test.true c.index-commands-index.is) inv.count (inv.begins old b) done.goes
           (rw inv.goes.same.nodes lt) (rw c.in-Some.is at c.in_ok-said.ensures.some) (rw c.in-Some.is at c.in_ok-said.ensures.memory) done.proceeds);
       nodes = ap length c.mark.ensures ∙ (length-set c.loop-index.opened.items command.node _ ∙ inv.nodes);
       count = omega (arith, c.push.ensures.count, inv.count);

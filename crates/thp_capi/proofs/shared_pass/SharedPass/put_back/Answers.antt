@@ -1,8 +1,8 @@
--- The other open batches stay in front of their flights; what the cell's call did is told.
+-- The other open batches stay in front of their flights; what the cell's call did is reported.
 use Rattle.std.proofs.Common.{◌≡◌, ◌∙◌, ◌+◌, ◌<◌, Some, None, Ok, arith, get_or, length, refl, set, sym, subst, Err}
 use Rattle.std.proofs.lemmas.List.{get_or_default}
 use Rattle.thp_capi.specs.PassBatches.{PassBack}
-use Rattle.thp_capi.proofs.Opened.{back_done, own_at, shared_closed, shared_stays, back_failed, told_as}
+use Rattle.thp_capi.proofs.Opened.{back_done, own_at, shared_closed, shared_stays, back_failed, reported_as}
 use Rattle.thp_capi.specs.Codes.{fault_in}
 use Rattle.thp_capi.proofs.shared_pass.SharedPass.put_back.Goals as goal
 
@@ -52,6 +52,6 @@ returns-in_err-reply g c =
     let is : get_or bs place None ≡ Some b = get_or_default bs place None c.index.result.now lt ∙ sym c.index.ensures ∙ c.in-Some.is in
     let own : b.caller ≡ c.args.caller = omega (arith, (c.self.invariant.each place b lt is).0, at) in
     let fault = c.in_err-reply.field-0.0 in
-    rw (told_as _ (fault_in fault) c.from_residual-in_err-reply.ensures.1)
+    rw (reported_as _ (fault_in fault) c.from_residual-in_err-reply.ensures.1)
     (subst (λ x. PassBack c.args.caller x (record { mark = c.self.inside.mark; pass = c.put_back_all.new.pass; batches = bs }) (Err (fault_in fault))) c.self.view_is
     (back_failed c.self.inside.mark p c.put_back_all.new.pass bs _ c.args.caller place c.put_back_all.ensures.same at lt b fault is own refl c.in_err-reply.ensures.failed))

@@ -2,7 +2,7 @@
 use Rattle.std.proofs.Common.{◌-◌, ℕ, arith, subst}
 use Rattle.thp_capi.proofs.Opened.{shared_below, shared_from, part_below, part_from}
 use Rattle.thp_cell.specs.Prelude.{below, from}
-use Rattle.thp_capi.specs.Sharing.{IsPart, SharedState}
+use Rattle.thp_capi.specs.Sharing.{IsSharedPart, SharedState}
 use Rattle.thp_capi.proofs.shared_pass.SharedPass.split.Goals as goal
 
 pub invariant_of-result : goal.invariant_of-result
@@ -22,11 +22,11 @@ invariant_of-upper g c =
 pub returns-clause-left : goal.returns-clause-left
 returns-clause-left g c =
     let k : ℕ = c.args.at - c.callers-first.result.0 in
-    subst (λ (s : SharedState). IsPart (below s.pass c.args.at) s (record { mark = c.all.inside.mark; pass = c.split-left.result.0; batches = c.cut.new.places.items })) c.all.view_is
+    subst (λ (s : SharedState). IsSharedPart (below s.pass c.args.at) s (record { mark = c.all.inside.mark; pass = c.split-left.result.0; batches = c.cut.new.places.items })) c.all.view_is
     (rw (c.split-left.ensures.left, c.in-Ok-cut.ensures.kept) (part_below c.all.inside.mark c.all.inside.pass c.all.inside.batches.items c.args.at k (omega (arith, c.callers-first.ensures.first, c.if-at-first.false))))
 
 pub returns-clause-right : goal.returns-clause-right
 returns-clause-right g c =
     let k : ℕ = c.args.at - c.callers-first.result.0 in
-    subst (λ (s : SharedState). IsPart (from s.pass c.args.at) s (record { mark = c.all.inside.mark; pass = c.split-left.result.1; batches = c.in-Ok-cut.rest.items })) c.all.view_is
+    subst (λ (s : SharedState). IsSharedPart (from s.pass c.args.at) s (record { mark = c.all.inside.mark; pass = c.split-left.result.1; batches = c.in-Ok-cut.rest.items })) c.all.view_is
     (rw (c.split-left.ensures.right, c.in-Ok-cut.ensures.rest) (part_from c.all.inside.mark c.all.inside.pass c.all.inside.batches.items c.args.at k (omega (arith, c.callers-first.ensures.first, c.if-at-first.false))))

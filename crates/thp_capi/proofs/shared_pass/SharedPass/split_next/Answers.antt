@@ -1,9 +1,9 @@
--- The batch and the others stay in front of their flights; what the cell's call did is told.
+-- The batch and the others stay in front of their flights; what the cell's call did is reported.
 use Rattle.std.proofs.Common.{◌≡◌, ◌∙◌, ◌+◌, ◌<◌, Some, None, Ok, arith, get_or, length, refl, set, sym, subst, Err}
 use Rattle.std.proofs.lemmas.List.{get_or_default}
 use Rattle.thp_cell.specs.Prelude.{Called, DidTry}
 use Rattle.thp_capi.specs.PassBatches.{PassNext}
-use Rattle.thp_capi.proofs.Opened.{others_stay, own_at, shared_took, next_done, next_failed, next_none, told_as}
+use Rattle.thp_capi.proofs.Opened.{others_stay, own_at, shared_took, next_done, next_failed, next_none, reported_as}
 use Rattle.thp_capi.specs.Codes.{fault_in}
 use Rattle.thp_capi.proofs.Places.{same_again}
 use Rattle.thp_capi.specs.declared.codes.Fault.TheVariants.{NoBatch}
@@ -101,6 +101,6 @@ returns-in_err-tried g c =
     let q = c.split_next.new.pass in
     let b' = c.split_next.new.batch in
     let fault = c.in_err-tried.field-0.0 in
-    rw (told_as _ (fault_in fault) c.from_residual-in_err-tried.ensures.1)
+    rw (reported_as _ (fault_in fault) c.from_residual-in_err-tried.ensures.1)
     (subst (λ x. PassNext c.args.caller x (record { mark = c.self.inside.mark; pass = q; batches = set bs place (Some b') }) (Err (fault_in fault))) c.self.view_is
     (next_failed c.self.inside.mark p q bs _ c.args.caller place c.split_next.ensures.same at lt b b' fault is own refl c.in_err-tried.ensures.kept c.in_err-tried.ensures.failed))

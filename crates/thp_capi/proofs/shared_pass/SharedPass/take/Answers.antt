@@ -1,7 +1,7 @@
 -- The new batch is in front of its flight, and the others stay so.
 use Rattle.std.proofs.Common.{◌≡◌, ◌+◌, ◌<◌, ap, length, refl, subst, sym, ◌∙◌, Option, None, Some, Ok, false, is_some, set, Err}
 use Rattle.thp_node.specs.Prelude.{BatchState}
-use Rattle.thp_capi.proofs.Opened.{shared_failed, shared_took, take_done, take_failed, told_as}
+use Rattle.thp_capi.proofs.Opened.{shared_failed, shared_took, take_done, take_failed, reported_as}
 use Rattle.std.proofs.lemmas.List.{get_or_default}
 use Rattle.thp_capi.specs.PassBatches.{PassTake}
 use Rattle.thp_capi.specs.Codes.{fault_in}
@@ -44,6 +44,6 @@ returns-in_err-batch g c =
     let lt : place < length bs = subst (λ x. place < length x.batches) (sym c.self.view_is) c.in_ok-place.ensures.inside in
     let was = get_or_default bs place None c.index.result.now lt ∙ sym c.index.ensures ∙ none_of c.index.result.now (sym c.is_some.ensures ∙ c.if-is_some.false) in
     let why = c.in_err-batch.field-0.0 in
-    rw (told_as _ (fault_in why) c.from_residual-in_err-batch.ensures.1)
+    rw (reported_as _ (fault_in why) c.from_residual-in_err-batch.ensures.1)
     (subst (λ x. PassTake c.args.caller c.args.n x (record { mark = c.self.inside.mark; pass = c.take.new.pass; batches = bs }) (Err (fault_in why))) c.self.view_is
     (take_failed c.self.inside.mark p c.take.new.pass bs bs c.args.caller place c.take.ensures.same at lt c.args.n why was refl c.in_err-batch.ensures.failed))

@@ -4,7 +4,7 @@ use Rattle.std.proofs.lemmas.List.Elements.{All-weaker}
 use Rattle.thp_history.specs.declared.events.Event.{Event}
 use Rattle.thp_history.specs.Prelude.{events_of}
 use Rattle.thp_node.specs.Prelude.{NodeState}
-use Rattle.thp_cell.specs.Prelude.{IsOwn, returning_node, IsWhole, PassState, HasAll, Place, pass_state}
+use Rattle.thp_cell.specs.Prelude.{IsOwn, returning_node, SeatIsWhole, PassState, HasAll, Place, pass_state}
 use Rattle.thp_cell.proofs.Ending.{EndsWith, ends}
 use Rattle.thp_cell.proofs.Keeping.{returned}
 use Rattle.thp_cell.proofs.cell.NodeCell.finish.Goals as goal
@@ -23,7 +23,7 @@ ends_pass p s node is all e = subst (λ x. EndsPass x node) is record {
       (λ x own. let last : s.me.0.end ≡ s.me.0.callers = (subst HasAll (sym is) all).to in let under = own.1 in omega arith) node.journal e.callers;
 }
 
-is_whole : (p : PassState) (s : Place) → pass_state false s ≡ p → HasAll p → IsWhole s.me.0
+is_whole : (p : PassState) (s : Place) → pass_state false s ≡ p → HasAll p → SeatIsWhole s.me.0
 is_whole p s is all = let whole = subst HasAll (sym is) all in record { from = whole.from; to = whole.to }
 
 pub returns : goal.returns

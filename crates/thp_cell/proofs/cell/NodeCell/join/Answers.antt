@@ -1,4 +1,4 @@
--- The join of two seats and the load after it keep the rule, and tell that both fronts begin the new one.
+-- The join of two seats and the load after it keep the rule, and show that both fronts begin the new one.
 use Rattle.std.proofs.Common.{rules, arith, ap, subst, sym, ◌∙◌, ◌≡◌, ◌≤◌, ◌<◌, [], false}
 use Rattle.thp_history.specs.Prelude.{IsLegal}
 use Rattle.thp_cell.specs.Prelude.{SeatValue, PassState, returning_node, IsJoined, known_state, pass_state}
@@ -31,7 +31,7 @@ load-requires g c =
     let after = free'.callers in
     (search rules, search rules, looks_at _ _ _ _ _ (ap (λ (m : SeatValue). m.1) e ∙ free.no_slot) (ap (λ (m : SeatValue). m.0.has_node) e) (omega arith))
 
--- what the load tells of the three passes
+-- what the load shows of the three passes
 pub returns : goal.returns
 returns g c =
     let s = c.joined.inside.seat in

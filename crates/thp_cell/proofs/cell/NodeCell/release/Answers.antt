@@ -1,6 +1,6 @@
 -- The node of a hold lies in the slot that its seat has, with the journal that it had.
 use Rattle.std.proofs.Common.{rules, subst, sym}
-use Rattle.thp_cell.specs.Prelude.{Adds}
+use Rattle.thp_cell.specs.Prelude.{ExtendsBy}
 use Rattle.thp_cell.proofs.Fronts.{adds_none}
 use Rattle.thp_cell.proofs.cell.NodeCell.release.Goals as goal
 
@@ -18,6 +18,6 @@ unlock-requires g c =
         slot = held.slot;
         shape = held.shape;
         legal = held.legal;
-        adds = subst (Adds v.first v.end v.front) (sym held.journal) (adds_none v.first v.end v.front);
+        adds = subst (ExtendsBy v.first v.end v.front) (sym held.journal) (adds_none v.first v.end v.front);
       };
     }

@@ -39,7 +39,7 @@ returns c =
     let o = outcome_in c.args.what.now in
     let set = frames_in c.args.what.now in
     let is = recorded_loss c.args.what.now c.args.page c.args.loss c.requires.call in
-    let told = (c.is_recorded.ensures c.args.loss c.args.page o set is).0 c.if-not-is_recorded.false in
+    let reported = (c.is_recorded.ensures c.args.loss c.args.page o set is).0 c.if-not-is_recorded.false in
     rw is (λ n s h m.
     loss_goes s h n c.args.page c.in-Some.block c.args.self.now m c.in-Some.ensures c.args.loss o set _ c.lose.new.done c.in-Ok.left
-    (λ x e q. c.in-Ok.ensures.refusal x e q) c.in-Ok.ensures.lost c.leave.ensures.left c.leave.ensures.size refl refl refl told.0 told.1)
+    (λ x e q. c.in-Ok.ensures.refusal x e q) c.in-Ok.ensures.lost c.leave.ensures.left c.leave.ensures.size refl refl refl reported.0 reported.1)

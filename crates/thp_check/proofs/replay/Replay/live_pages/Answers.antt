@@ -19,17 +19,17 @@ pages_of-requires c =
     let i = c.self.inside in
     let r = i.state.value in
     let m = c.self.invariant.0 in
-    let told = c.in_ok-blocks.ensures ∙ ap (λ (q : NodeState). filter (is_taken c.deref.result.now.places.table) (range_with_len 0 q.shape.blocks)) (c.deref-2.ensures ∙ sym c.deref.ensures) in
-    each_of r.shape i.past r m taken (map (page_at r.places.table) (taken r)) (lie_there r.shape i.past r.places.table r.places.queue m.kept.node (range_with_len 0 r.shape.blocks)) c.deref.result.now c.deref.result.now c.deref.ensures c.deref.ensures c.in_ok-blocks.blocks.items c.deref-3.result.now told c.deref-3.ensures.value
+    let reported = c.in_ok-blocks.ensures ∙ ap (λ (q : NodeState). filter (is_taken c.deref.result.now.places.table) (range_with_len 0 q.shape.blocks)) (c.deref-2.ensures ∙ sym c.deref.ensures) in
+    each_of r.shape i.past r m taken (map (page_at r.places.table) (taken r)) (lie_there r.shape i.past r.places.table r.places.queue m.kept.node (range_with_len 0 r.shape.blocks)) c.deref.result.now c.deref.result.now c.deref.ensures c.deref.ensures c.in_ok-blocks.blocks.items c.deref-3.result.now reported c.deref-3.ensures.value
 
 pub returns : goal.returns
 returns c =
     let i = c.self.inside in
     let r = i.state.value in
     let m = c.self.invariant.0 in
-    let told = c.in_ok-blocks.ensures ∙ ap (λ (q : NodeState). filter (is_taken c.deref.result.now.places.table) (range_with_len 0 q.shape.blocks)) (c.deref-2.ensures ∙ sym c.deref.ensures) in
+    let reported = c.in_ok-blocks.ensures ∙ ap (λ (q : NodeState). filter (is_taken c.deref.result.now.places.table) (range_with_len 0 q.shape.blocks)) (c.deref-2.ensures ∙ sym c.deref.ensures) in
     let are =
-    pages_are r.shape i.past r m taken (map (page_at r.places.table) (taken r)) (lie_there r.shape i.past r.places.table r.places.queue m.kept.node (range_with_len 0 r.shape.blocks)) c.deref.result.now c.deref.result.now c.deref.ensures c.deref.ensures c.in_ok-blocks.blocks.items c.deref-3.result.now told c.deref-3.ensures.value in
+    pages_are r.shape i.past r m taken (map (page_at r.places.table) (taken r)) (lie_there r.shape i.past r.places.table r.places.queue m.kept.node (range_with_len 0 r.shape.blocks)) c.deref.result.now c.deref.result.now c.deref.ensures c.deref.ensures c.in_ok-blocks.blocks.items c.deref-3.result.now reported c.deref-3.ensures.value in
     if_ok_then c.pages_of.result _ _
     (λ pages e.
     let P : Replayed → Type 0 = λ v. map (block_of v.history) pages.items ≡ map (λ b. Some b) (filter (block_in_use v.history) (range_with_len 0 v.shape.blocks)) in

@@ -7,10 +7,10 @@ use Rattle.thp_history.proofs.sub_set.SubSet.is_empty.Goals as goal
 
 pub returns-clause-empty : goal.returns-clause-empty
 returns-clause-empty c =
-    let tells : c.eq.result ≡ same_set c.args.self.now (set_of (λ i. false)) =
+    let reports : c.eq.result ≡ same_set c.args.self.now (set_of (λ i. false)) =
     same_none c.self.inside.words c.args.self.now c.self.view_is c.self.invariant c.eq.result (slice_eq-Decides unsigned_Decides c.self.inside.words _ c.eq.result c.eq.ensures) in (
-      λ holds. (same_set-Decides c.args.self.now (set_of (λ i. false))).0 (sym tells ∙ holds),
-      λ same. tells ∙ (same_set-Decides c.args.self.now (set_of (λ i. false))).1 same,
+      λ holds. (same_set-Decides c.args.self.now (set_of (λ i. false))).0 (sym reports ∙ holds),
+      λ same. reports ∙ (same_set-Decides c.args.self.now (set_of (λ i. false))).1 same,
     )
 
 pub returns-clause-none : goal.returns-clause-none

@@ -10,5 +10,5 @@ returns g c =
     let replay = g.F.FollowsNode.replayed c.args.node in
     let in_block : ℕ → Event = λ b. record { caller = c.args.caller; what = Alloc c.args.page b } in
     IfOk-weaker c.go_on.result _ _
-    (λ u goes nodes told block known is. goes nodes told known (ap in_block c.free_block-block.ensures ∙ ap (event_with (least_free replay.shape replay.history)) (sym is)))
+    (λ u goes nodes reported block known is. goes nodes reported known (ap in_block c.free_block-block.ensures ∙ ap (event_with (least_free replay.shape replay.history)) (sym is)))
     c.go_on.ensures

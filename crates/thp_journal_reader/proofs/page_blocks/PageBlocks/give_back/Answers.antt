@@ -1,5 +1,5 @@
 use Rattle.std.proofs.Common.{ℕ, ◌<◌, List, Option, length, arith, subst, sym}
-use Rattle.thp_journal_reader.specs.Chains.{IsWalked, place_after}
+use Rattle.thp_journal_reader.specs.Chains.{IsWalked, chain_place}
 use Rattle.thp_journal_reader.proofs.Chaining.{walk_inside, walk_held, walk_falls, walk_on, walk_ended, read_one, none_left}
 use Rattle.thp_journal_reader.proofs.page_blocks.PageBlocks.give_back.Goals as goal
 
@@ -18,7 +18,7 @@ release-requires c =
 
 pub loop-next-smaller : goal.loop-next-smaller
 loop-next-smaller c =
-    let P : Option ℕ → Type 0 = λ o. place_after c.index-allocation.result.now.before < place_after o in
+    let P : Option ℕ → Type 0 = λ o. chain_place c.index-allocation.result.now.before < chain_place o in
     subst P (sym c.in-Some.is)
     (walk_falls c.args.self.now.allocations.items c.args.last c.loop-next.next c.args.holders.now c.loop-next.holders c.in-Some.place c.index-allocation.result.now c.in-Some.is
     (read_one c.args.self.now.allocations.items c.in-Some.place c.index-allocation.result.now

@@ -1,4 +1,4 @@
-use Rattle.thp_journal_reader.specs.Chains.{IsWalked, place_after}
+use Rattle.thp_journal_reader.specs.Chains.{IsWalked, chain_place}
 use Rattle.thp_journal_reader.proofs.page_blocks.PageBlocks.give_back.Given as goal
 
 -- how far the chain was walked along
@@ -7,4 +7,4 @@ invariant-loop-next l = IsWalked l.self.allocations.items l.fn.last l.next l.fn.
 
 -- the place falls along the chain
 abbrev pub decreases-loop-next : goal.decreases-loop-next
-decreases-loop-next l = place_after l.next
+decreases-loop-next l = chain_place l.next

@@ -1,9 +1,9 @@
 use Rattle.std.proofs.Common.{◌≡◌, ◌∙◌, ◌++◌, ◌∷◌, ℕ, ap, arith, rules, subst, sym, Ok}
-use Rattle.thp_script.specs.Prelude.{after_line, told_after, with_begun, with_fault, TextSoFar, Text, lines_of}
+use Rattle.thp_script.specs.Prelude.{after_line, result_after, with_begun, with_fault, TextSoFar, Text, lines_of}
 use Rattle.thp_script.proofs.PartReadLaws.{part_begins}
 use Rattle.thp_script.proofs.TextLaws.{fault_comes, line_begins, noted}
-use Rattle.thp_journal_reader.specs.Prelude.{line_in, lines_tell, with_line}
-use Rattle.thp_journal_reader.proofs.PartLaws.{line_is_wrong, line_tells}
+use Rattle.thp_journal_reader.specs.Prelude.{line_in, result_of_lines, with_line}
+use Rattle.thp_journal_reader.proofs.PartLaws.{line_is_wrong, line_reports}
 use Rattle.thp_journal_reader.proofs.text_reader.TextReader.read_part.Goals as goal
 use Rattle.thp_journal_reader.proofs.text_reader.TextReader.read_part.Goals.{in-Some+in-Err, in_default}
 
@@ -12,11 +12,11 @@ most_of t = t.most
 
 pub loop-text-init : goal.loop-text-init
 loop-text-init g c =
-    let told = g.N.KeepsNodes.told in
+    let reported = g.N.KeepsNodes.reported in
     let part = c.next_part-rest in
     record {
-      tells = λ more. c.in_ok-rest.ensures.tells more
-          ∙ part_begins c.args.self.text part.new.self c.args.part.now part.result.now more (lines_tell (told c.args.self.nodes) c.args.self.place) (omega (arith, c.text.invariant.counted, ap most_of c.text.view_is, c.in_ok-rest.ensures.most, ap most_of part.ensures.part)) part.ensures.part part.ensures.to_read;
+      reports = λ more. c.in_ok-rest.ensures.reports more
+          ∙ part_begins c.args.self.text part.new.self c.args.part.now part.result.now more (result_of_lines (reported c.args.self.nodes) c.args.self.place) (omega (arith, c.text.invariant.counted, ap most_of c.text.view_is, c.in_ok-rest.ensures.most, ap most_of part.ensures.part)) part.ensures.part part.ensures.to_read;
       counted = c.in_ok-rest.ensures.counted;
       along = c.in_ok-rest.ensures.along;
       limit = c.in_ok-rest.ensures.most ∙ ap most_of part.ensures.part;
@@ -25,7 +25,7 @@ loop-text-init g c =
 
 pub loop-text-preserved : goal.loop-text-preserved
 loop-text-preserved g c =
-    let told = g.N.KeepsNodes.told in
+    let reported = g.N.KeepsNodes.reported in
     let l = c.loop-text in
     let bytes = c.as_slice.result.now in
     let line = c.in-Ok.line in
@@ -33,13 +33,13 @@ loop-text-preserved g c =
     let lines : (more : Text) → lines_of (l.text.begun ++ (l.rest.now ++ more)) ≡ bytes ∷ lines_of (c.next_line.new.rest.now ++ more) = search rules in
     let says : Ok line ≡ line_in l.place bytes = c.in-Ok.ensures.value in
     let number : c.in-Some.field-0.number ≡ l.text.line = rw c.in-Some.is at c.in_ok-number.ensures.number in
-    let added : told c.add.new.self ≡ with_line l.text.line (told l.nodes) line = rw number at c.in_ok-add-in-Ok.ensures.nodes in
-    let step : (more : Text) → told_after c.next_line.new.self more (lines_tell (told c.add.new.self) c.place_after-place.result c.next_line.new.self.line (c.next_line.new.self.begun ++ (c.next_line.new.rest.now ++ more)))
-    ≡ told_after l.text more (lines_tell (told l.nodes) l.place l.text.line (l.text.begun ++ (l.rest.now ++ more)))
-    = λ more. rw (after, added, c.place_after-place.ensures) (ap (told_after l.text more) (sym (line_tells (told l.nodes) l.place l.text.line (l.text.begun ++ (l.rest.now ++ more)) bytes (c.next_line.new.rest.now ++ more) line (lines more) says)))
+    let added : reported c.add.new.self ≡ with_line l.text.line (reported l.nodes) line = rw number at c.in_ok-add-in-Ok.ensures.nodes in
+    let step : (more : Text) → result_after c.next_line.new.self more (result_of_lines (reported c.add.new.self) c.place_after-place.result c.next_line.new.self.line (c.next_line.new.self.begun ++ (c.next_line.new.rest.now ++ more)))
+    ≡ result_after l.text more (result_of_lines (reported l.nodes) l.place l.text.line (l.text.begun ++ (l.rest.now ++ more)))
+    = λ more. rw (after, added, c.place_after-place.ensures) (ap (result_after l.text more) (sym (line_reports (reported l.nodes) l.place l.text.line (l.text.begun ++ (l.rest.now ++ more)) bytes (c.next_line.new.rest.now ++ more) line (lines more) says)))
     in
     record {
-      tells = λ more. c.in_ok-rest-in-Ok.ensures.tells more ∙ step more ∙ l.invariant.tells more;
+      reports = λ more. c.in_ok-rest-in-Ok.ensures.reports more ∙ step more ∙ l.invariant.reports more;
       counted = c.in_ok-rest-in-Ok.ensures.counted;
       along = c.in_ok-rest-in-Ok.ensures.along;
       limit = c.in_ok-rest-in-Ok.ensures.most ∙ rw after l.invariant.limit;
@@ -48,22 +48,22 @@ loop-text-preserved g c =
 
 pub returns-clause-text : goal.returns-clause-text
 returns-clause-text g c = λ more.
-    let told = g.N.KeepsNodes.told in
+    let reported = g.N.KeepsNodes.reported in
     let l = c.loop-text in
     let new = c.match-branch-3.text in
-    let reads = lines_tell (told l.nodes) l.place in
+    let reads = result_of_lines (reported l.nodes) l.place in
     elim c.match-branch-3.branch [
       | in-Some+in-Err w ↦ (
           let kind = w.in-Err.kind in
           let after : c.next_line.new.self ≡ after_line l.text = search rules in
           let line : lines_of (l.text.begun ++ (l.rest.now ++ more)) ≡ w.as_slice.result.now ∷ lines_of (c.next_line.new.rest.now ++ more) = rw w.as_slice.ensures.value ((rw w.in-Some.is at c.in_ok-number.ensures.line) more) in
           let is : new ≡ with_fault (after_line l.text) (l.text.line, kind) = w.text-is ∙ w.note_fault.ensures ∙ noted c.next_line.new.self l.text kind after in
-          let wrong = line_is_wrong (told l.nodes) l.place l.text.line (l.text.begun ++ (l.rest.now ++ more)) w.as_slice.result.now (c.next_line.new.rest.now ++ more) kind line w.in-Err.ensures.value in
-          fault_comes (after_line l.text) new (l.text.line, kind) more (reads new.line (new.begun ++ more)) is ∙ ap (told_after l.text more) (sym wrong) ∙ l.invariant.tells more
+          let wrong = line_is_wrong (reported l.nodes) l.place l.text.line (l.text.begun ++ (l.rest.now ++ more)) w.as_slice.result.now (c.next_line.new.rest.now ++ more) kind line w.in-Err.ensures.value in
+          fault_comes (after_line l.text) new (l.text.line, kind) more (reads new.line (new.begun ++ more)) is ∙ ap (result_after l.text more) (sym wrong) ∙ l.invariant.reports more
           )
       | in_default w ↦ (
           let begun : c.next_line.new.self ≡ with_begun l.text l.rest.now = search rules in
-          line_begins l.text new l.rest.now more reads (w.text-is ∙ begun) ∙ l.invariant.tells more
+          line_begins l.text new l.rest.now more reads (w.text-is ∙ begun) ∙ l.invariant.reports more
           )
     ]
 

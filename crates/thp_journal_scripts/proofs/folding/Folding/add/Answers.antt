@@ -1,7 +1,7 @@
 use Rattle.std.proofs.Common.{◌≡◌, ◌∙◌, ap, refl, subst, sym}
 use Rattle.thp_history.specs.Prelude.{event_with}
 use Rattle.thp_history.specs.declared.events.What.{What}
-use Rattle.thp_journal_scripts.specs.Prelude.{Moved, flying_after, pages_at, IsAt, IsAtPlace, kind_of, once_ended, scan_place_of, ScanPlace}
+use Rattle.thp_journal_scripts.specs.Prelude.{Moved, flying_after, pages_in_scan, IsAtScan, IsAtPlace, kind_of, once_ended, scan_place_of, ScanPlace}
 use Rattle.thp_journal_scripts.proofs.FoldingLaws.{event_then, folded_more, in_any_block, more_commands, still_plain}
 use Rattle.thp_journal_scripts.proofs.WholeScanLaws.{event_after, still_at}
 use Rattle.thp_journal_scripts.proofs.folding.Folding.add.Goals as goal
@@ -11,17 +11,17 @@ returns c = λ block.
     let o = c.args.ops.now.items in
     let p = c.add_kind.new.ops.items in
     let q = c.end.new.ops.items in
-    let told = c.args.event.now in
-    let e = event_with block told in
+    let reported = c.args.event.now in
+    let e = event_with block reported in
     let a = c.args.self.now in
     let m = c.add_kind.new.self in
     let b = c.follow.new.self in
     let d = c.end.new.self in
     let place : ScanPlace → ScanPlace = λ s. scan_place_of s (kind_of e.what) e.caller e.what in
-    let same : (s : ScanPlace) → place s ≡ scan_place_of s (kind_of told.what) told.caller told.what = λ s. in_any_block (λ (w : What). scan_place_of s (kind_of w) told.caller w) (λ p b d. refl) block told.what in
+    let same : (s : ScanPlace) → place s ≡ scan_place_of s (kind_of reported.what) reported.caller reported.what = λ s. in_any_block (λ (w : What). scan_place_of s (kind_of w) reported.caller w) (λ p b d. refl) block reported.what in
     let pages : b.pages.items ≡ flying_after e.what m.flights m.pages.items =
-    c.in_ok-follow.ensures.pages ∙ sym (in_any_block (λ (w : What). flying_after w m.flights m.pages.items) (λ p b d. refl) block told.what) in
-    let goes : (s : ScanPlace) → IsAtPlace s a → IsAt (place s) (pages_at s) m = λ s at. subst (λ t. IsAt t (pages_at s) m) (sym (same s)) (c.in_ok-add_kind.ensures.goes_on s at) in
+    c.in_ok-follow.ensures.pages ∙ sym (in_any_block (λ (w : What). flying_after w m.flights m.pages.items) (λ p b d. refl) block reported.what) in
+    let goes : (s : ScanPlace) → IsAtPlace s a → IsAtScan (place s) (pages_in_scan s) m = λ s at. subst (λ t. IsAtScan t (pages_in_scan s) m) (sym (same s)) (c.in_ok-add_kind.ensures.goes_on s at) in
     let after : (s : ScanPlace) → IsAtPlace s a → IsAtPlace (place s) b = λ s at. event_after e.what m b c.follow.ensures.batch c.follow.ensures.moved pages c.follow.ensures.flights e.caller s (goes s at) in
     folded_more o c.release.new.ops.items e a c.release.new.self
     (event_then o q c.release.new.ops.items e a d d c.release.new.self

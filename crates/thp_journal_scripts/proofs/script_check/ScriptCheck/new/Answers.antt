@@ -1,10 +1,10 @@
 use Rattle.std.proofs.Common.{◌≡◌, ◌≤◌, ◌∙◌, List, ap, arith, subst, sym}
 use Rattle.thp_script.specs.Prelude.{max_counted, TextSoFar}
-use Rattle.thp_journal_reader.specs.Prelude.{nodes_told}
+use Rattle.thp_journal_reader.specs.Prelude.{nodes_read}
 use Rattle.thp_journal_scripts.specs.Prelude.{IsScripting}
 use Rattle.thp_journal_reader.specs.declared.journals.ReadNode.{ReadNode}
-use Rattle.thp_journal_reader.proofs.CheckLaws.{told_none}
-use Rattle.thp_journal_reader.proofs.PartLaws.{tells_all}
+use Rattle.thp_journal_reader.proofs.CheckLaws.{reported_none}
+use Rattle.thp_journal_reader.proofs.PartLaws.{reports_all}
 use Rattle.thp_journal_scripts.proofs.script_check.ScriptCheck.new.Goals as goal
 
 pub invariant_of-result : goal.invariant_of-result
@@ -14,9 +14,9 @@ invariant_of-result c =
     let R : TextSoFar → Type 0 = λ t. t.most ≤ max_counted in
     let S : List ReadNode → Type 0 = λ ns. IsScripting ns c.new.result.checked.follower.illegal c.new.result.script in (
       rw (line, c.new-2.ensures.nodes) c.new.ensures.follows,
-      rw c.new-2.ensures.nodes (subst S (sym (ap nodes_told c.new.ensures.lines ∙ told_none)) c.new.ensures.script),
+      rw c.new-2.ensures.nodes (subst S (sym (ap nodes_read c.new.ensures.lines ∙ reported_none)) c.new.ensures.script),
       subst R (sym (text ∙ c.unlimited.ensures)) (omega arith),
     )
 
-pub returns-clause-tells : goal.returns-clause-tells
-returns-clause-tells c = λ text. rw (c.new-2.ensures.nodes, c.new.ensures.lines, told_none, c.new-2.ensures.place, c.new-2.ensures.text, c.unlimited.ensures) (tells_all max_counted text)
+pub returns-clause-reports : goal.returns-clause-reports
+returns-clause-reports c = λ text. rw (c.new-2.ensures.nodes, c.new.ensures.lines, reported_none, c.new-2.ensures.place, c.new-2.ensures.text, c.unlimited.ensures) (reports_all max_counted text)

@@ -1,7 +1,7 @@
 use Rattle.std.proofs.Common.{◌≡◌, ◌≤◌, ◌∙◌, ap, arith, subst, sym}
 use Rattle.thp_script.specs.Prelude.{max_counted, TextSoFar}
-use Rattle.thp_journal_reader.proofs.CheckLaws.{told_none}
-use Rattle.thp_journal_reader.proofs.PartLaws.{tells_all}
+use Rattle.thp_journal_reader.proofs.CheckLaws.{reported_none}
+use Rattle.thp_journal_reader.proofs.PartLaws.{reports_all}
 use Rattle.thp_journal_tools.proofs.keeping_check.KeepingCheck.new.Goals as goal
 
 pub invariant_of-result : goal.invariant_of-result
@@ -11,4 +11,4 @@ invariant_of-result g c =
     (rw (line, c.new-2.ensures.nodes) c.new.ensures.follows, subst R (sym (c.new-2.ensures.text ∙ c.unlimited.ensures)) (omega arith))
 
 pub returns : goal.returns
-returns g c = λ text. rw (c.new-2.ensures.nodes, c.new.ensures.lines, told_none, c.new-2.ensures.place, c.new-2.ensures.text, c.unlimited.ensures) (tells_all max_counted text)
+returns g c = λ text. rw (c.new-2.ensures.nodes, c.new.ensures.lines, reported_none, c.new-2.ensures.place, c.new-2.ensures.text, c.unlimited.ensures) (reports_all max_counted text)

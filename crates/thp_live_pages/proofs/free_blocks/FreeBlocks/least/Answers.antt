@@ -5,7 +5,7 @@ use Rattle.thp_history.specs.Prelude.{in_words}
 use Rattle.thp_live_pages.proofs.FreeWords.{in-passed, in-lowest, in-past}
 use Rattle.thp_live_pages.proofs.free_blocks.FreeBlocks.least.Goals as goal
 
--- the first word with a bit tells the least block, in words that are the set's
+-- the first word with a bit shows the least block, in words that are the set's
 lowest_of : (ws vs : List ℕ) (at : ℕ) → vs ≡ ws → (get_or vs at 0 ≡ 0 → ⊥) → get_or vs at 0 < 2 ^ 64 → ((k : ℕ) → k / 64 < at → in_words ws k ≡ false) →
     (in_words ws (64 * at + trailing_zeros w64 (get_or vs at 0)) ≡ true) × ((k : ℕ) → k < 64 * at + trailing_zeros w64 (get_or vs at 0) → in_words ws k ≡ false)
 lowest_of ws vs at e some fits f =

@@ -4,7 +4,7 @@ use Rattle.thp_links.specs.Prelude.{Stands, SameOutside}
 use Rattle.thp_page.proofs.TableSlots.{slot_at-inside}
 use Rattle.thp_page.specs.Prelude.{slot_at, stood, Slot, Table}
 use Rattle.thp_page.specs.declared.standing.Standing.TheVariants.{Queued}
-use Rattle.thp_live_pages.specs.Prelude.{PageStoreState, IsLinked}
+use Rattle.thp_live_pages.specs.Prelude.{PageStoreState, QueueIsLinked}
 use Rattle.thp_live_pages.proofs.Relinking.{linked_queued, links_outside, links_seen, same_pushed, stood_slots, taken}
 use Rattle.thp_live_pages.proofs.page_store.PageStore.enqueue.Goals as goal
 
@@ -17,7 +17,7 @@ invariant_of-self c =
     let w = taken _ c.requires.occupied in
     let at : slot_at t b ≡ Some w.0 = ap (λ (n : PageStoreState). slot_at n.table b) c.self.view_is ∙ w.1 in
     let links = ap (λ (v : Table). v.links) c.set_standing.ensures in
-    let P : List ℕ → Type 0 = λ r. IsLinked u r in
+    let P : List ℕ → Type 0 = λ r. QueueIsLinked u r in
     let S : List ℕ → Type 0 = λ r. Stands r u.links in
     let O : List ℕ → List Link → Type 0 = λ r ls. SameOutside r ls u.links in
     subst P (sym c.push_back.ensures.list)

@@ -7,7 +7,7 @@ use Rattle.thp_page.specs.declared.page.Change.{Change}
 use Rattle.thp_page.specs.declared.standing.Standing.{Standing}
 use Rattle.thp_page.specs.Prelude.{slot_at, with_slot, paged, page_in, IsChange}
 use Rattle.thp_live_pages.specs.Outcomes.{outcome_by, released_after}
-use Rattle.thp_live_pages.specs.Prelude.{AtSlot, PageStoreState, Edits, Lost, slot_after, queue_after, left_by, is_nowhere}
+use Rattle.thp_live_pages.specs.Prelude.{AtSlot, PageStoreState, Edits, Lost, slot_after, queue_by_outcome, leaves_batch, is_nowhere}
 use Rattle.thp_live_pages.proofs.PageUses.{outcome_is_by, released_is_by}
 use Rattle.thp_live_pages.proofs.Losing.{left_outside, left_taken, paged_taken, queued_outside}
 use Rattle.thp_live_pages.proofs.Relinking.{linked_paged, seen_inside, seen_taken, edited_slot, edits_as, edits_then, edits_none, edits_settled, if_at}
@@ -20,8 +20,8 @@ reduced old b q = record old { table = with_slot old.table b (paged (slot_at old
 -- a loss whose outcome is carried out
 lost : (loss : Loss) (closed : Bool) (old new now : PageStoreState) (b : ℕ) (p q : PageState) (change : Change) (s : Standing) (o k : Outcome) (frames : List Bool) (left : Option ℕ) (n : ℕ) →
     old ≡ now → Some p ≡ page_in (slot_at old.table b) → IfSome (slot_at old.table b) (λ y. s ≡ y.standing) → Loses loss p q → IsChange p q change →
-    o ≡ outcome_by q change closed (is_nowhere s) → frames ≡ released_after q change o → o ≡ k → left ≡ left_by k s →
-    AtSlot (reduced old b q).table b (λ y. Edits (reduced old b q) new b (slot_after k y) (queue_after k b old.queue) n) → n ≤ 6 →
+    o ≡ outcome_by q change closed (is_nowhere s) → frames ≡ released_after q change o → o ≡ k → left ≡ leaves_batch k s →
+    AtSlot (reduced old b q).table b (λ y. Edits (reduced old b q) new b (slot_after k y) (queue_by_outcome k b old.queue) n) → n ≤ 6 →
     AtSlot now.table b (λ x. Lost loss closed x now new b (record { outcome = o; released = frames }) left)
 unfolding reduced
 lost loss closed old new now b p q change s o k frames left n same page standing w by is gives it leaves then few =

@@ -2,7 +2,7 @@ use Rattle.std.proofs.Common.{◌≡◌, ℕ, ◌<◌, Bool, false, Some, None, 
 use Rattle.thp_page.specs.declared.standing.Standing.TheVariants.{Nowhere}
 use Rattle.thp_page.specs.Prelude.{HoldsPage, Slot, Table, fresh_slot, slot_at}
 use Rattle.thp_page.proofs.TableSlots.{slot_at-with_slot-same}
-use Rattle.thp_live_pages.specs.Prelude.{PageStoreState, Placed}
+use Rattle.thp_live_pages.specs.Prelude.{IsPlaced, PageStoreState}
 use Rattle.thp_live_pages.proofs.Losing.{nowhere_only}
 use Rattle.thp_live_pages.proofs.Relinking.{linked_outside, placed_queued, same_slot}
 use Rattle.thp_live_pages.proofs.page_store.PageStore.place.Goals as goal
@@ -53,6 +53,6 @@ enqueue-requires-clause-outside c = λ x at queued.
 pub returns-then-queued : goal.returns-then-queued
 returns-then-queued c =
     let mid : PageStoreState = record { table = c.place.new.self; queue = c.self.inside.queue } in
-    let placed : Placed c.args.page false c.args.self.now mid c.args.block = search rules in
-    let P : Bool → Type 0 = λ queued. Placed c.args.page queued c.args.self.now c.enqueue.new.self c.args.block in
+    let placed : IsPlaced c.args.page false c.args.self.now mid c.args.block = search rules in
+    let P : Bool → Type 0 = λ queued. IsPlaced c.args.page queued c.args.self.now c.enqueue.new.self c.args.block in
     subst P (sym c.if-queued.true) (placed_queued c.args.page c.args.self.now mid c.enqueue.new.self c.args.block c.requires.inside placed c.enqueue.ensures)

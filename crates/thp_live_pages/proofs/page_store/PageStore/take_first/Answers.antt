@@ -5,7 +5,7 @@ use Rattle.thp_links.proofs.Members.{Contains-from_first}
 use Rattle.thp_page.proofs.TableSlots.{slot_at-inside, slot_at-same}
 use Rattle.thp_page.specs.Prelude.{stood, Slot, Table}
 use Rattle.thp_page.specs.declared.standing.Standing.TheVariants.{Batch}
-use Rattle.thp_live_pages.specs.Prelude.{IsLinked}
+use Rattle.thp_live_pages.specs.Prelude.{QueueIsLinked}
 use Rattle.thp_live_pages.proofs.Relinking.{linked_popped, queued_slot, stood_slot}
 use Rattle.thp_live_pages.proofs.page_store.PageStore.take_first.Goals as goal
 
@@ -18,7 +18,7 @@ invariant_of-self c =
     let first = sym c.pop_front.ensures.value ∙ c.in-Some.is in
     let w = queued_slot t q b c.self.invariant (Contains-from_first q b first) in
     let links : u.links ≡ c.pop_front.new.table.links = ap (λ (v : Table). v.links) c.set_standing.ensures in
-    let P : List ℕ → Type 0 = λ r. IsLinked u r in
+    let P : List ℕ → Type 0 = λ r. QueueIsLinked u r in
     let S : List ℕ → List Link → Type 0 = λ r ls. Stands r ls in
     let O : List Link → Type 0 = λ ls. SameOutside q t.links ls in
     subst P (sym c.pop_front.ensures.list)

@@ -1,11 +1,11 @@
 use Rattle.std.proofs.Common.{◌≡◌, ◌∙◌, ◌≤◌, [], ◌∷◌, length-append, ◌^◌, ap, subst, sym, refl, arith, vec_capacity, length}
-use Rattle.thp_metrics.specs.Prelude.{in_pairs, AreLow, AreWithin, Column, HasLowSums}
+use Rattle.thp_metrics.specs.Prelude.{in_pairs, ColumnsAreLow, AreWithin, Column, HasLowSums}
 use Rattle.thp_metrics.proofs.Folding.{are_low_more, begins, begins_folded}
 use Rattle.thp_metrics.proofs.columns.Folded.begin.Goals as goal
 use Rattle.thp_metrics.proofs.columns.Folded.begin.Goals.{then-len-eq-MAX_COLUMNS, else-len-eq-MAX_COLUMNS}
 
 pub fold-requires-clause-few : goal.fold-requires-clause-few
-fold-requires-clause-few c = subst AreLow (sym c.push_reserved.ensures.items) (are_low_more c.args.self.now.full.items c.args.self.now.last c.requires.room.low c.requires.room.last_low)
+fold-requires-clause-few c = subst ColumnsAreLow (sym c.push_reserved.ensures.items) (are_low_more c.args.self.now.full.items c.args.self.now.last c.requires.room.low c.requires.room.last_low)
 
 pub returns : goal.returns
 returns c past n next h =

@@ -1,7 +1,7 @@
-use Rattle.thp_metrics.specs.Prelude.{Numbers, count_gone, count_more, MayCount, CountsBatches, batch_of, home}
+use Rattle.thp_metrics.specs.Prelude.{Numbers, count_gone, count_more, MayCount, CountsBatches, flight_holder, home}
 use Rattle.std.proofs.Common.{◌≡◌, ◌+◌, ◌<◌, ◌^◌, ◌∙◌, [], ◌∷◌, ◌++◌, ℕ, List, ap, sym, subst, arith, length, option_and_then}
 use Rattle.thp_history.specs.Prelude.{Fits}
-use Rattle.thp_check.specs.Prelude.{Replayed, with_event}
+use Rattle.thp_check.specs.Prelude.{Replayed, replayed_with}
 use Rattle.thp_journal_writer.specs.Prelude.{event_page}
 use Rattle.thp_metrics.proofs.Counting.{counts_on, may_count, may_go}
 use Rattle.thp_metrics.proofs.Following.{goes_on, length_of_series, may_enter, may_leave}
@@ -60,14 +60,14 @@ invariant_of-result c =
     let e = c.args.event.now in
     let before = c.spot_in-before.result in
     let after = c.spot_in-after.result in
-    let waits : c.follow.new.self ≡ c.in-Ok.replay = c.follow.ensures ∙ ap (λ (r : Replayed). with_event r e) c.self.invariant.1 ∙ sym c.in-Ok.ensures.admitted in
+    let waits : c.follow.new.self ≡ c.in-Ok.replay = c.follow.ensures ∙ ap (λ (r : Replayed). replayed_with r e) c.self.invariant.1 ∙ sym c.in-Ok.ensures.admitted in
     let may = may_go i.replay i.batches before.batch (event_page e.what) c.self.invariant.0.legal c.self.invariant.2 c.spot_in-before.ensures.batch in
     let counted : c.gain.new.self ≡ count_more (count_gone i.batches before.batch) after.batch = c.gain.ensures ∙ ap (λ (ns : List ℕ). count_more ns after.batch) c.lose.ensures in
     let counts : CountsBatches c.in-Ok.replay c.gain.new.self =
     subst (λ (r : Replayed). CountsBatches r c.gain.new.self) (sym c.in-Ok.ensures.admitted)
-    (subst (CountsBatches (with_event i.replay e)) (sym counted)
+    (subst (CountsBatches (replayed_with i.replay e)) (sym counted)
     (counts_on i.replay e i.batches before.batch after.batch c.self.invariant.0.legal c.in-Ok.ensures.fits c.self.invariant.2 may c.spot_in-before.ensures.batch
-    (c.spot_in-after.ensures.batch ∙ ap (λ (r : Replayed). option_and_then (batch_of r.shape r.history) (event_page e.what)) c.in-Ok.ensures.admitted))) in
+    (c.spot_in-after.ensures.batch ∙ ap (λ (r : Replayed). option_and_then (flight_holder r.shape r.history) (event_page e.what)) c.in-Ok.ensures.admitted))) in
     let along = goes_on i.replay c.in-Ok.replay e c.leave.new.pages c.enter.new.pages c.set_stage.new.stages i.columns c.push.new.self i.numbers c.numbers_of-numbers.result before.stage after.stage c.self.invariant.0
     c.in-Ok.ensures.admitted c.in-Ok.ensures.fits
     (may_leave i.replay.shape i.replay.history i.numbers.pages before.stage (event_page e.what) c.self.invariant.0.legal (ap (λ (n : Numbers). n.pages) c.self.invariant.0.numbers_are) c.spot_in-before.ensures.stage)

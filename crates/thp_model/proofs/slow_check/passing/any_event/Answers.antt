@@ -12,12 +12,12 @@ loop-event-init g c = λ t asks. refl
 pub returns-then-test : goal.returns-then-test
 returns-then-test g c = λ t asks.
     let e = c.event-item.result in
-    let told : c.test.result ≡ t e.what = asks e.what c.test.result (record { shown = _; shows = refl; says = record { met = c.test.ensures } }) in
-    sym (some_passes t c.args.events.now c.loop-event.event-index e (get_at c.args.events.now c.loop-event.event-index e c.loop-event-test.true c.event-item.is) (sym told ∙ c.if-test.true))
+    let reported : c.test.result ≡ t e.what = asks e.what c.test.result (record { shown = _; shows = refl; says = record { met = c.test.ensures } }) in
+    sym (some_passes t c.args.events.now c.loop-event.event-index e (get_at c.args.events.now c.loop-event.event-index e c.loop-event-test.true c.event-item.is) (sym reported ∙ c.if-test.true))
 
 pub loop-event-preserved : goal.loop-event-preserved
 loop-event-preserved g c = λ t asks.
     let e = c.event-item.result in
-    let told : c.test.result ≡ t e.what = asks e.what c.test.result (record { shown = _; shows = refl; says = record { met = c.test.ensures } }) in
+    let reported : c.test.result ≡ t e.what = asks e.what c.test.result (record { shown = _; shows = refl; says = record { met = c.test.ensures } }) in
     some_next t c.args.events.now c.loop-event.event-index e c.loop-event-test.true c.event-item.is
-    ∙ ap (λ b. b || t e.what) (c.loop-event.invariant t asks) ∙ sym told ∙ c.if-test.false
+    ∙ ap (λ b. b || t e.what) (c.loop-event.invariant t asks) ∙ sym reported ∙ c.if-test.false

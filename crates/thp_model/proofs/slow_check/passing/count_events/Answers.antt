@@ -17,12 +17,12 @@ loop-event-preserved g c = record {
   few = elim c.if-test.branch [ then-test w ↦ omega arith | else-test w ↦ omega arith ];
   counted = λ t asks.
       let e = c.event-item.result in
-      let told : c.test.result ≡ t e.what = asks e.what c.test.result (record { shown = _; shows = refl; says = record { met = c.test.ensures } }) in
+      let reported : c.test.result ≡ t e.what = asks e.what c.test.result (record { shown = _; shows = refl; says = record { met = c.test.ensures } }) in
       let next = count_next t c.args.events.now c.loop-event.event-index e c.loop-event-test.true c.event-item.is in
       let before = c.loop-event.invariant.counted t asks in
       elim c.if-test.branch [
-        | then-test w ↦ let one = one_if (t e.what) (sym told ∙ w.if-test.true) in omega (arith, next, before, one)
-        | else-test w ↦ let none = none_if (t e.what) (sym told ∙ w.if-test.false) in omega (arith, next, before, none)
+        | then-test w ↦ let one = one_if (t e.what) (sym reported ∙ w.if-test.true) in omega (arith, next, before, one)
+        | else-test w ↦ let none = none_if (t e.what) (sym reported ∙ w.if-test.false) in omega (arith, next, before, none)
       ];
 }
 

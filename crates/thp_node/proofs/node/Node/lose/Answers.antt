@@ -15,9 +15,9 @@ use Rattle.thp_node.proofs.node.Node.lose.Goals as goal
 
 -- what the page doesn't refuse isn't refused
 allowed : (s : Shape) (h : History) (n : PageStoreState) (p b : ℕ) (l : Loss) → IsNode s h n.table n.queue → block_of h p ≡ Some b → AtSlot n.table b (λ x. (q : ℕ) → None ≡ page_refusal x.page (loss_call l q)) → refusal s h (loss_call l p) ≡ None
-allowed s h n p b l m home told =
+allowed s h n p b l m home reported =
     let w : Found s h n.table p b = at_home s h n.table n.queue p b m home in
-    refused_by_page s h n.table p b (either.Loss l) w ∙ sym (told w.slot w.at p)
+    refused_by_page s h n.table p b (either.Loss l) w ∙ sym (reported w.slot w.at p)
 
 -- what the page lost
 after : (g : Over) (c : goal.After-record_loss g) → Losing c.self.inside.journal.shape c.self.inside.journal.events c.args.caller c.args.page c.args.loss c.self.inside.blocks c.lose.new.self c.lose.new.done c.in_ok-left.left

@@ -1,6 +1,6 @@
 use Rattle.std.proofs.Common.{ℕ, ◌<◌, List, length, take, ap, ◌∙◌, arith, length-take-le}
 use Rattle.std.proofs.lemmas.List.Sums.{count_by-le-length}
-use Rattle.thp_node.specs.Prelude.{is_used, NodeState, rest}
+use Rattle.thp_node.specs.Prelude.{is_tried_used, NodeState, rest}
 use Rattle.thp_node.proofs.ScanLemmas.{used_more, few_used, tried_more, tried_after, no_refusal, room_to_try}
 use Rattle.thp_node.proofs.node.Node.try_all.Goals as goal
 
@@ -19,7 +19,7 @@ overflow_add-used g c =
     omega (
       arith,
       c.loop-tried.invariant.used,
-      count_by-le-length (is_used a.shape a.journal) (take c.loop-tried._tried ps),
+      count_by-le-length (is_tried_used a.shape a.journal) (take c.loop-tried._tried ps),
       length-take-le c.loop-tried._tried ps,
       c.loop-tried-test.true,
       ap length c.pages-tried-end.ensures.value,

@@ -7,7 +7,7 @@ use Rattle.thp_history.specs.Pages.{Pinned}
 use Rattle.thp_history.proofs.WordLemmas.{set_of-ext}
 use Rattle.thp_history.specs.Refusals as call
 use Rattle.thp_page.specs.declared.page.Change.{Change}
-use Rattle.thp_page.specs.Prelude.{Inside, state_of, IsKept, IsChange}
+use Rattle.thp_page.specs.Prelude.{Inside, state_of, FieldsAgree, IsChange}
 use Rattle.thp_page.proofs.PageSizes.{size_most, whole_test}
 use Rattle.thp_page.proofs.PageRefusals.{allowed_as, unmap_whole_allowed, unmap_sub_allowed, unpin_allowed}
 use Rattle.thp_page.proofs.Trailing.{behind-unmap}
@@ -18,7 +18,7 @@ use Rattle.thp_page.proofs.page.Page.lose.Goals as goal
 
 -- the effect of a loss on the fields, before it is known whether the page is partly mapped then
 record Lessens (loss : Loss) (p q : Inside) (change : Change) : Type 0 where
-  kept : IsKept q
+  kept : FieldsAgree q
   partly : q.partly ≡ p.partly
   unused : change.unused ≡ drops_use (state_of p) (state_of q)
   done : (b : Bool) → b ≡ partly_after (state_of p) (state_of q) → Loses loss (state_of p) (record (state_of q) { partly = b }) × (change.released ≡ gives_frames (state_of p) (record (state_of q) { partly = b }))
@@ -35,7 +35,7 @@ whole_done s b h e = record {
   kept = record { zero = refl; freed_zero_frames = refl };
 }
 
-whole : (p : Inside) (change : Change) → IsKept p → page_refusal (state_of p) (call.unmap_whole 0) ≡ None → change.unused ≡ drops_use (state_of p) (record (state_of p) { whole = p.whole - 1 }) →
+whole : (p : Inside) (change : Change) → FieldsAgree p → page_refusal (state_of p) (call.unmap_whole 0) ≡ None → change.unused ≡ drops_use (state_of p) (record (state_of p) { whole = p.whole - 1 }) →
     change.released ≡ set_of (λ i. false) → Lessens loss.UnmapWhole p (record p { whole = p.whole - 1 }) change
 whole p change k allowed unused none =
     let s : PageState = state_of p in
@@ -62,7 +62,7 @@ range_done s own first count b most taken e = record {
   kept = record { zero = refl; freed_zero_frames = refl };
 }
 
-range_kept : (p : Inside) (own : List ℕ) (first count : ℕ) → IsKept p → ((i : ℕ) → i < 512 → own_at (state_of p) i ≡ get_or own i 0 + cond (covers first count i) 1 0) → IsKept (record p { own = own })
+range_kept : (p : Inside) (own : List ℕ) (first count : ℕ) → FieldsAgree p → ((i : ℕ) → i < 512 → own_at (state_of p) i ≡ get_or own i 0 + cond (covers first count i) 1 0) → FieldsAgree (record p { own = own })
 range_kept p own first count k taken =
     let s : PageState = state_of p in
     let u : PageState = record s { own = own } in
@@ -91,7 +91,7 @@ gone old own first count was g e taken =
 unpinned : (s : PageState) (b : Bool) → 1 ≤ s.pins → s.partly ≡ b → Pinned (record s { pins = s.pins - 1; partly = b }) s
 unpinned s b h e = record { order = refl; whole = refl; own = λ i below. refl; pins = omega arith; split = refl; partly = e; kept = record { zero = refl; freed_zero_frames = refl } }
 
-pin : (p : Inside) (change : Change) → IsKept p → page_refusal (state_of p) (call.unpin 0) ≡ None → change.unused ≡ false → change.released ≡ set_of (λ i. false) → Lessens loss.Unpin p (record p { pins = p.pins - 1 }) change
+pin : (p : Inside) (change : Change) → FieldsAgree p → page_refusal (state_of p) (call.unpin 0) ≡ None → change.unused ≡ false → change.released ≡ set_of (λ i. false) → Lessens loss.Unpin p (record p { pins = p.pins - 1 }) change
 pin p change k allowed unused none =
     let s : PageState = state_of p in
     let u : PageState = record s { pins = s.pins - 1 } in

@@ -1,5 +1,5 @@
 use Rattle.std.proofs.Common.{◌≡◌, ◌∙◌, ◌++◌, ◌∷◌, ap, arith, rules, sym}
-use Rattle.thp_script.specs.Prelude.{lines_spell, after_line, told_after, with_begun, with_fault, IsCounted, Text, lines_of}
+use Rattle.thp_script.specs.Prelude.{lines_spell, after_line, result_after, with_begun, with_fault, IsCounted, Text, lines_of}
 use Rattle.thp_script.proofs.PartLaws.{line_is_wrong}
 use Rattle.thp_script.proofs.PartReadLaws.{line_inside, line_spelled, part_begins}
 use Rattle.thp_script.proofs.TextLaws.{fault_comes, line_begins, noted}
@@ -52,7 +52,7 @@ returns-clause-text c = λ more.
           let line : lines_of (l.text.begun ++ (l.rest.now ++ more)) ≡ w.as_slice.result.now ∷ lines_of (c.next_line.new.rest.now ++ more) = rw w.as_slice.ensures.value ((rw w.in-Some.is at c.in_ok-bytes.ensures.line) more) in
           let is : new ≡ with_fault (after_line l.text) (l.text.line, kind) = w.text-is ∙ w.note_fault.ensures ∙ noted c.next_line.new.self l.text kind after in
           let wrong = line_is_wrong s l.sections.items l.section l.text.line (l.text.begun ++ (l.rest.now ++ more)) w.as_slice.result.now (c.next_line.new.rest.now ++ more) kind line w.in-Err.ensures in
-          fault_comes (after_line l.text) new (l.text.line, kind) more (reads new.line (new.begun ++ more)) is ∙ ap (told_after l.text more) (sym wrong) ∙ l.invariant.spelled more
+          fault_comes (after_line l.text) new (l.text.line, kind) more (reads new.line (new.begun ++ more)) is ∙ ap (result_after l.text more) (sym wrong) ∙ l.invariant.spelled more
           )
       | in_default w ↦ (
           let begun : c.next_line.new.self ≡ with_begun l.text l.rest.now = search rules in

@@ -6,13 +6,13 @@ use Rattle.thp_history.specs.declared.events.What.TheVariants as what
 use Rattle.thp_history.specs.declared.page_call.PageCall.TheVariants as either
 use Rattle.thp_worker.specs.Prelude.{Held, node_call_of}
 use Rattle.thp_worker.specs.declared.steps.NodeCall.TheVariants as node
-use Rattle.thp_worker.proofs.HoldingLaws.{alloc_told, count_done, held_stays, unit_done}
+use Rattle.thp_worker.proofs.HoldingLaws.{alloc_reported, count_done, held_stays, unit_done}
 use Rattle.thp_worker.proofs.node_pass.NodePass.call.Goals as goal
 
 pub returns-in-Alloc : goal.returns-in-Alloc
 returns-in-Alloc g c =
     let e = c.alloc_page.ensures in
-    rw (← c.self.view_is, c.page.ensures) (alloc_told _ (sym c.node_call.ensures ∙ c.in-Alloc.is) _ _ _ _ c.alloc_page.result e.same e.recorded e.failed)
+    rw (← c.self.view_is, c.page.ensures) (alloc_reported _ (sym c.node_call.ensures ∙ c.in-Alloc.is) _ _ _ _ c.alloc_page.result e.same e.recorded e.failed)
 
 pub returns-in-Page-default-Gain : goal.returns-in-Page-default-Gain
 returns-in-Page-default-Gain g c =

@@ -1,7 +1,7 @@
 use Rattle.std.proofs.Common.{◌≡◌, ◌∙◌, ◌-◌, ℕ, List, Option, Some, None, true, false, is_some, set, refl, sym, ap, subst, Err, slice_get, set-set}
 use Rattle.std.proofs.lemmas.Option.{slice_get_read}
 use Rattle.thp_node.specs.Prelude.{BatchState}
-use Rattle.thp_worker.specs.Prelude.{Take, HeldDone, IsHeld}
+use Rattle.thp_worker.specs.Prelude.{Take, HeldDone, IsHolding}
 use Rattle.thp_worker.proofs.HoldingLaws.{place_at, beside_held, held_taken, held_untaken, shut_again, taken_by, take_held, take_failed}
 use Rattle.thp_worker.proofs.node_pass.NodePass.take.Goals as goal
 
@@ -47,7 +47,7 @@ invariant_of-self-in-Err g c =
     let place : ℕ = c.args.caller - c.callers-first.result.0 in
     let at = place_at c.self.invariant (sym c.self.view_is) c.requires.caller c.callers-first.ensures.first in
     let is = slice_get_read c.self.inside.batches.items _ _ _ refl at.1 c.index.ensures ∙ ap (λ b. Some b) (none_of c.index.result.now (sym c.is_some.ensures ∙ c.if-is_some.false)) in
-    subst (IsHeld c.self.inside.cell.now c.take_into.new.pass) (untaken _ place _ c.take_into.new.batch is)
+    subst (IsHolding c.self.inside.cell.now c.take_into.new.pass) (untaken _ place _ c.take_into.new.batch is)
     (held_untaken _ _ _ _ _ _ c.self.invariant c.take_into.ensures.same c.take_into.ensures.batches at.0 at.1 is)
 
 pub returns-in-Err : goal.returns-in-Err

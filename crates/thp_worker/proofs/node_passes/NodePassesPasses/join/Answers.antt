@@ -1,7 +1,7 @@
 use Rattle.std.proofs.Common.{◌≡◌, ◌∙◌, ap, arith, length, subst, sym}
 use Rattle.std.specs.Vec.Iter.{into_iter_items}
 use Rattle.thp_history.proofs.Options.{not_there}
-use Rattle.thp_worker.specs.Prelude.{IsJoined, Passes, fronts_in, fronts_of}
+use Rattle.thp_worker.specs.Prelude.{AreFrontsJoined, Passes, fronts_in, fronts_of}
 use Rattle.thp_worker.proofs.EachLaws.{adjoins_first, adjoins_some, agree_joint, each_adjoins, join_fronts, joint_end, joint_more}
 use Rattle.thp_worker.proofs.node_passes.NodePassesPasses.join.Goals as goal
 
@@ -56,5 +56,5 @@ returns g c =
     let inv = c.loop-low.invariant in
     let joint = joint_end _ _ _ _ _ (omega (arith, inv.left, c.in-None.ensures.steps.0)) inv.adjoin inv.joint in
     let now = fronts_of i.callers i.first c.other.inside.end c.loop-low.nodes.items in
-    rw c.new.ensures (subst (λ (p : Passes). IsJoined (fronts_in p) (fronts_in c.args.other) now) c.self.view_is
-    (subst (λ (q : Passes). IsJoined (fronts_of i.callers i.first i.end i.nodes.items) (fronts_in q) now) c.other.view_is (join_fronts _ _ _ _ _ _ _ _ c.self.invariant c.other.invariant _ (rw (← c.self.view_is, ← c.other.view_is) at joint))))
+    rw c.new.ensures (subst (λ (p : Passes). AreFrontsJoined (fronts_in p) (fronts_in c.args.other) now) c.self.view_is
+    (subst (λ (q : Passes). AreFrontsJoined (fronts_of i.callers i.first i.end i.nodes.items) (fronts_in q) now) c.other.view_is (join_fronts _ _ _ _ _ _ _ _ c.self.invariant c.other.invariant _ (rw (← c.self.view_is, ← c.other.view_is) at joint))))

@@ -1,7 +1,7 @@
 use Rattle.std.proofs.Common.{◌≡◌, ◌∙◌, ap, arith, length, map, subst, sym, All}
 use Rattle.std.proofs.lemmas.List.Elements.{All-tail, All-head}
 use Rattle.std.specs.Vec.Iter.{into_iter_items}
-use Rattle.thp_worker.specs.Prelude.{high_part, low_part, IsCut, IsSplit, Passes, fronts_in, fronts_of}
+use Rattle.thp_worker.specs.Prelude.{high_part, low_part, IsCut, AreFrontsSplit, Passes, fronts_in, fronts_of}
 use Rattle.thp_worker.proofs.EachLaws.{all_done, cut_each, agree_low, agree_high, pushed, split_fronts}
 use Rattle.thp_worker.proofs.node_passes.NodePassesPasses.split.Goals as goal
 
@@ -45,7 +45,7 @@ returns g c =
     let inv = c.loop-node.invariant in
     let low : c.loop-node.low.items ≡ map (low_part c.args.at) i.nodes.items = all_done (low_part c.args.at) _ (into_iter_items c.loop-node.node-iterator) _ inv.low (omega (arith, inv.left, c.in-None.ensures.steps.0)) ∙ ap (map (low_part c.args.at)) (sym (ap (λ (p : Passes). p.held) c.self.view_is)) in
     let high : c.loop-node.high.items ≡ map (high_part c.args.at) i.nodes.items = all_done (high_part c.args.at) _ (into_iter_items c.loop-node.node-iterator) _ inv.high (omega (arith, inv.left, c.in-None.ensures.steps.0)) ∙ ap (map (high_part c.args.at)) (sym (ap (λ (p : Passes). p.held) c.self.view_is)) in
-    rw (c.new.ensures, c.new-2.ensures) (subst (λ (p : Passes). IsSplit c.args.at (fronts_in p) (fronts_of i.callers i.first c.args.at c.loop-node.low.items) (fronts_of i.callers c.args.at i.end c.loop-node.high.items)) c.self.view_is
+    rw (c.new.ensures, c.new-2.ensures) (subst (λ (p : Passes). AreFrontsSplit c.args.at (fronts_in p) (fronts_of i.callers i.first c.args.at c.loop-node.low.items) (fronts_of i.callers c.args.at i.end c.loop-node.high.items)) c.self.view_is
     (rw (low, high) (split_fronts _ _ _ c.args.at _ c.self.invariant (rw (← c.self.view_is) at c.requires.after))))
 
 pub split-requires-clause-after : goal.split-requires-clause-after

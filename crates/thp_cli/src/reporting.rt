@@ -2,7 +2,7 @@
 ghost use Rattle.std.specs.Prelude.{◌≡◌, ◌≤◌, ◌++◌, Err, false, length};
 ghost use Rattle.arrayvec.specs.ArrayString.{array_string_len};
 ghost use Rattle.thp_script.specs.Prelude.{kind_word};
-ghost use Rattle.thp_cli.specs.Prelude.{Takes, WritesMessage, device_of, end_status, fault_line, fault_text, name_front, no_node_line, status_of};
+ghost use Rattle.thp_cli.specs.Prelude.{WriterTakes, WritesMessage, device_of, end_status, fault_line, fault_text, name_front, no_node_line, status_of};
 
 use crate::device::write_text;
 use crate::ending::{Ending, Program, ProgramFault};
@@ -100,21 +100,25 @@ fn no_node_line(program: Program, number: u32) -> ArrayString<LINE>
 }
 
 /// Writes a text to standard error. A failure is ignored, as it can't be reported.
-pub fn tell_text<E: Write>(errors: &mut Watched<E>, text: &[u8])
+pub fn report_message<E: Write>(errors: &mut Watched<E>, text: &[u8])
     requires { errors.old.failed ≡ false }
-    ensures { Takes (device_of E.contents errors.old errors.new) text.now }
+    ensures { WriterTakes (device_of E.contents errors.old errors.new) text.now }
 {
     let _ = write_text(errors, text);
 }
 
 /// Reports the error of a run or a check, and returns the exit status. It allocates nothing.
-pub fn tell_run<E: Write>(program: Program, fault: RunFault<u64>, errors: &mut Watched<E>) -> u8
+pub fn report_run_fault<E: Write>(
+    program: Program,
+    fault: RunFault<u64>,
+    errors: &mut Watched<E>,
+) -> u8
     requires { errors.old.failed ≡ false }
-    ensures told { Takes (device_of E.contents errors.old errors.new) (fault_line program fault) }
+    ensures reported { WriterTakes (device_of E.contents errors.old errors.new) (fault_line program fault) }
     ensures status { result ≡ status_of fault }
 {
     let text = fault_line(program, &fault);
-    tell_text(errors, text.as_str().as_bytes());
+    report_message(errors, text.as_str().as_bytes());
     match fault {
         RunFault::Text { .. } => FAULTY,
         _ => FAILED,
@@ -122,19 +126,19 @@ pub fn tell_run<E: Write>(program: Program, fault: RunFault<u64>, errors: &mut W
 }
 
 /// Reports why the program did not do what was requested, and returns the exit status. It allocates nothing.
-pub fn tell<E: Write>(program: Program, fault: ProgramFault, errors: &mut Watched<E>) -> u8
+pub fn report_fault<E: Write>(program: Program, fault: ProgramFault, errors: &mut Watched<E>) -> u8
     requires { errors.old.failed ≡ false }
     ensures { WritesMessage program (device_of E.contents errors.old errors.new) result (Err fault) }
 {
     match fault {
-        ProgramFault::Run(fault) => return tell_run(program, fault, errors),
-        ProgramFault::Usage(text) => tell_text(errors, text.as_bytes()),
-        ProgramFault::Orders => tell_text(errors, b"thpsplit: bad orders\n"),
-        ProgramFault::Underused => tell_text(errors, b"thpsplit: bad underused\n"),
+        ProgramFault::Run(fault) => return report_run_fault(program, fault, errors),
+        ProgramFault::Usage(text) => report_message(errors, text.as_bytes()),
+        ProgramFault::Orders => report_message(errors, b"thpsplit: bad orders\n"),
+        ProgramFault::Underused => report_message(errors, b"thpsplit: bad underused\n"),
         ProgramFault::NoNode(number) => {
-            tell_text(errors, no_node_line(program, number).as_str().as_bytes());
+            report_message(errors, no_node_line(program, number).as_str().as_bytes());
         }
-        ProgramFault::NoText => tell_text(
+        ProgramFault::NoText => report_message(
             errors,
             b"error: invalid UTF-8 was detected in one or more arguments\n",
         ),

@@ -24,19 +24,19 @@ IsOfVersion v (Used page) = IsFromVersion3 v
 IsOfVersion v _ = ⊤
 
 -- a line of the version can contain the event
-pub record IsTellable (v : Version) (e : Event) : Type 0 where
+pub record IsReportable (v : Version) (e : Event) : Type 0 where
   pub caller : e.caller < max_callers
   pub numbers : HasSmallNumbers e.what
   pub version : IsOfVersion v e.what
 
 -- the line of a node in a version determines the shape: without an order it is 9, without a threshold there is none
-abbrev pub IsToldShape : Version → Shape → Type 0
-IsToldShape Plain s = (s.order ≡ max_order) × (s.underused ≡ None)
-IsToldShape Orders s = s.underused ≡ None
-IsToldShape Underused s = ⊤
+abbrev pub IsReportedShape : Version → Shape → Type 0
+IsReportedShape Plain s = (s.order ≡ max_order) × (s.underused ≡ None)
+IsReportedShape Orders s = s.underused ≡ None
+IsReportedShape Underused s = ⊤
 
 -- a node's lines can contain its journal
-pub record IsToldJournal (v : Version) (j : Journal) : Type 0 where
+pub record IsReportedJournal (v : Version) (j : Journal) : Type 0 where
   pub shape : IsShape j.0
-  pub tells_shape : IsToldShape v j.0
-  pub events : AllByRecursion (IsTellable v) j.1
+  pub reports_shape : IsReportedShape v j.0
+  pub events : AllByRecursion (IsReportable v) j.1
