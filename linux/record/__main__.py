@@ -43,7 +43,7 @@ def commands_for(options: Namespace) -> list[list[str]]:
     return [[helper("workload"), *options.own[:3], str(order), *options.own[3:]] for order in options.order]
 
 
-def tell_progress(what: str, share: float, last: list[float]) -> None:
+def report_progress(what: str, share: float, last: list[float]) -> None:
     """Writes a line on a terminal's standard error, once a second (`last`: when it did): how much of something is done."""
     if sys.stderr.isatty() and time.monotonic() > last[0] + 1:
         last[0] = time.monotonic()
@@ -57,7 +57,7 @@ def check_recording(options: Namespace, recording: Recording, page_size: int, ou
         for number, track in enumerate(recording.tracks):
             stack.callback(track.store.close)
             outputs.write(f"records {number}", track.store.pieces())
-            track.store.tell = lambda share: tell_progress("analysing", share, last)
+            track.store.report = lambda share: report_progress("analysing", share, last)
             track.store.link()
             for order in options.order:
                 threshold = recording.threshold if order == PMD_ORDER else None  # only pages of PMD size can be underused

@@ -113,7 +113,7 @@ class Store(ScratchFile):
     def __init__(self, folder: str = FOLDER) -> None:
         super().__init__("the records", folder)
         self.count = 0  # of the records
-        self.tell: Callable[[float], None] = lambda share: None  # is called now and then with the share of a pass that is over
+        self.report: Callable[[float], None] = lambda share: None  # is called now and then with the share of a pass that is over
         self._made = array("Q"), array("Q"), array("Q")  # of each huge page allocated: its record's place, folio and time
 
     def add(self, raw: bytes) -> None:
@@ -164,7 +164,7 @@ class Store(ScratchFile):
         rest, place, end = b"", 0, self.size  # what is left of the last piece, and where that is
         for piece in self.pieces():
             data, at = rest + piece, 0
-            self.tell(place / end)
+            self.report(place / end)
             while len(data) >= at + RING_HEAD:
                 begin, length = at + RING_HEAD, _LINK.unpack_from(data, at)[0]
                 if len(data) < begin + length + -length % 8:
