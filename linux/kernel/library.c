@@ -88,10 +88,10 @@ static int count_arguments(const struct btf *types, const char *tracepoint)
 	return btf_vlen(btf__type_by_id(types, type->type)) - 1;
 }
 
+/* readers of kernel memory */
+
 /* Types are looked up in the kernel alone. libbpf's default is to look for one that it lacks in its modules, which needs CAP_SYS_ADMIN. */
 static const struct bpf_object_open_opts kernel_alone = { .sz = sizeof(kernel_alone), .btf_custom_path = "/sys/kernel/btf/vmlinux" };
-
-/* readers of kernel memory */
 
 /* Returns the programs, loaded; NULL where they are refused. */
 struct memory_bpf *thp_memory_open(char *problem, size_t size)
@@ -219,7 +219,7 @@ static bool load(struct recorder *recorder, const struct thp_settings *settings,
 	if (!begin_messages())
 		return false;
 	kernel = btf__load_vmlinux_btf();
-	programs = recorder->programs = kernel ? record_bpf__open_opts(&kernel_alone) : NULL;
+	programs = recorder->programs = kernel ? record_bpf__open() : NULL;
 	fits = programs && configure(programs, settings, kernel);
 	if (fits)
 		choose_functions(kernel, programs->obj, recorder->refused);
