@@ -177,8 +177,9 @@ class State:
         return bool(self._doubts) and self._doubts[-1][2] == FOREVER
 
     def doubt_at(self, time: int) -> Doubt | None:
-        """Returns why the events at a time are in doubt."""
-        return next((why for why, begin, end in self._doubts if begin <= time <= end), None)
+        """Returns why the events at a time are in doubt. A copy that is equal again shows the kernel's order, not the journal's (E), so
+        a doubt that has ended is one of the later events too."""
+        return next((why for why, begin, _ in self._doubts if begin <= time), None)
 
     def emit(self, task: int, page: Page, word: str, first: int = 0, count: int = 0, outcome: str = "", given: int = 0) -> None:
         """Emits an event of a page."""
