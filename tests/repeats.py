@@ -171,16 +171,17 @@ def callers_mixed(chance: Random, checker: Path, program: Path) -> Optional[str]
 
 
 def freed_while_waiting() -> list[str]:
-    """A journal in which caller 1 takes two pages while the batch of caller 0 is open, and loses one of them: the late scan has one page."""
+    """A journal in which caller 1 takes two pages while the batch of caller 0 is open, and loses one of them: its late scan has one."""
     run, half = Run([(16, 9, None)]), 256
+    calls: list[tuple[int, str, list[int]]] = []
     for page in range(3):
-        for word, operands_of in (("alloc", []), ("splitpmd", [page]), ("unmap", [page, 0, half])):
-            run.command(0, word, 0, operands_of)
-    batches: dict[int, dict[int, list[int]]] = {0: {}, 1: {}}
-    for caller, word, operands_of in ((0, "take", [1]), (1, "take", [2]), (2, "unmap", [1, half, half]), (0, "splitnext", []),
-                                      (0, "putback", []), (1, "splitnext", []), (1, "putback", [])):
-        run.batches = batches[caller] if caller in batches else {}
-        run.command(caller, word, 0, operands_of)
+        calls += [(0, "alloc", []), (0, "splitpmd", [page]), (0, "unmap", [page, 0, half])]
+    calls += [(0, "take", [1]), (1, "take", [2]), (2, "unmap", [1, half, half])]
+    calls += [(caller, word, []) for caller in (0, 1) for word in ("splitnext", "putback")]
+    batches: dict[int, dict[int, list[int]]] = {caller: {} for caller in range(3)}
+    for caller, word, numbers in calls:
+        run.batches = batches[caller]
+        run.command(caller, word, 0, numbers)
     return run.journal()
 
 
@@ -238,7 +239,8 @@ def main() -> None:
         if not path.is_file():
             sys.exit(f"{path} is no program")
     tally = Tally(is_brief=True)
-    tally.report("a page freed from a batch that waits", makes_same_calls(words.checker.resolve(), words.program.resolve(), freed_while_waiting()))
+    wrong = makes_same_calls(words.checker.resolve(), words.program.resolve(), freed_while_waiting())
+    tally.report("a page freed from a batch that waits", wrong)
     cases = [(words.seed, place, words.checker.resolve(), words.program.resolve()) for place in range(words.cases)]
     with Pool() as pool:
         for place, (kind, wrong) in enumerate(pool.imap(tried, cases, 20)):
