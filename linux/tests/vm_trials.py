@@ -29,7 +29,8 @@ SCRIPTS = 10
 STEPS = 600  # of a recording
 RIGHTS = ("bpf", "perfmon", "sys_ptrace")
 LOOKED_AT = """python3 -c 'import mmap, time; area = mmap.mmap(-1, 8 << 20, mmap.MAP_PRIVATE | mmap.MAP_ANONYMOUS); area.madvise(14)
-area.write(b"1" * (8 << 20)); open("/tmp/ready", "w"); time.sleep(600)' & until test -e /tmp/ready; do sleep 1; done"""  # a process with huge pages
+area.write(b"1" * (8 << 20)); open("/tmp/ready", "w"); time.sleep(600)' & until test -e /tmp/ready; do sleep 1; done"""
+"""A process with huge pages, and the wait for them."""
 MIRROR, KEYS = "http://deb.debian.org/debian", "/usr/share/keyrings/debian-archive-keyring.gpg"
 
 
