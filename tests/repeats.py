@@ -171,14 +171,15 @@ def callers_mixed(chance: Random, checker: Path, program: Path) -> Optional[str]
 
 
 def freed_while_waiting() -> list[str]:
-    """A journal in which caller 1 takes two pages while the batch of caller 0 is open, and loses one of them: its late scan has one."""
+    """A journal in which callers 1 and 2 take two pages each while the batch of caller 0 is open, and caller 2 loses one of them: the late
+    scans have two pages and one."""
     run, half = Run([(16, 9, None)]), 256
     calls: list[tuple[int, str, list[int]]] = []
-    for page in range(3):
+    for page in range(5):
         calls += [(0, "alloc", []), (0, "splitpmd", [page]), (0, "unmap", [page, 0, half])]
-    calls += [(0, "take", [1]), (1, "take", [2]), (2, "unmap", [1, half, half])]
-    calls += [(caller, word, []) for caller in (0, 1) for word in ("splitnext", "putback")]
-    batches: dict[int, dict[int, list[int]]] = {caller: {} for caller in range(3)}
+    calls += [(0, "take", [1]), (1, "take", [2]), (2, "take", [2]), (3, "unmap", [3, half, half])]
+    calls += [(caller, word, []) for caller in range(3) for word in ("splitnext", "splitnext", "putback")]
+    batches: dict[int, dict[int, list[int]]] = {caller: {} for caller in range(4)}
     for caller, word, numbers in calls:
         run.batches = batches[caller]
         run.command(caller, word, 0, numbers)
