@@ -170,20 +170,27 @@ def callers_mixed(chance: Random, checker: Path, program: Path) -> Optional[str]
     return makes_same_calls(checker, program, mixed_journal(chance))
 
 
-def freed_while_waiting() -> list[str]:
-    """A journal in which callers 1 and 2 take two pages each while the batch of caller 0 is open, and caller 2 loses one of them: the late
-    scans have two pages and one."""
-    run, half = Run([(16, 9, None)]), 256
-    calls: list[tuple[int, str, list[int]]] = []
-    for page in range(5):
-        calls += [(0, "alloc", []), (0, "splitpmd", [page]), (0, "unmap", [page, 0, half])]
-    calls += [(0, "take", [1]), (1, "take", [2]), (2, "take", [2]), (3, "unmap", [3, half, half])]
-    calls += [(caller, word, []) for caller in range(3) for word in ("splitnext", "splitnext", "putback")]
+def late_batches(pages: int, calls: list[tuple[int, str, list[int]]]) -> list[str]:
+    """A journal in which callers take some of so many queued pages while the batch of caller 0, of one page, is open."""
+    run, half = Run([(4096, 9, None)]), 256
+    queued: list[tuple[int, str, list[int]]] = []
+    for page in range(pages):
+        queued += [(0, "alloc", []), (0, "splitpmd", [page]), (0, "unmap", [page, 0, half])]
     batches: dict[int, dict[int, list[int]]] = {caller: {} for caller in range(4)}
-    for caller, word, numbers in calls:
+    for caller, word, numbers in [*queued, (0, "take", [1]), *calls]:
         run.batches = batches[caller]
         run.command(caller, word, 0, numbers)
+    for caller in range(4):
+        run.batches = batches[caller]
+        run.end(caller)
     return run.journal()
+
+
+LATE = {
+    "a page freed from the second batch that waits": late_batches(5, [(1, "take", [2]), (2, "take", [2]), (3, "unmap", [3, 256, 256])]),
+    "a batch that waits and has more pages than a command takes": late_batches(131, [(1, "take", [130])]),
+}
+"""Journals of batches that wait."""
 
 
 def tries_mixed(chance: Random, checker: Path, program: Path) -> Optional[str]:
@@ -240,8 +247,8 @@ def main() -> None:
         if not path.is_file():
             sys.exit(f"{path} is no program")
     tally = Tally(is_brief=True)
-    wrong = makes_same_calls(words.checker.resolve(), words.program.resolve(), freed_while_waiting())
-    tally.report("a page freed from a batch that waits", wrong)
+    for name, journal in LATE.items():
+        tally.report(name, makes_same_calls(words.checker.resolve(), words.program.resolve(), journal))
     cases = [(words.seed, place, words.checker.resolve(), words.program.resolve()) for place in range(words.cases)]
     with Pool() as pool:
         for place, (kind, wrong) in enumerate(pool.imap(tried, cases, 20)):
