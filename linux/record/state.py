@@ -125,7 +125,7 @@ class State:
     is_missing: bool = False  # a scan wasn't followed
     now: int = 0  # the time of the current record
     task: int = 0  # and its task
-    _doubts: list[tuple[Doubt, int, int]] = field(default_factory=list)  # why the order of events isn't known, from when to when
+    _doubts: list[tuple[Doubt, int, int]] = field(default_factory=list)  # why the queue's order isn't known, from when to when
     _equal: int = 0  # when a copy of the queue was equal to the journal's
     _places: dict[int, list[tuple[int, int, Page]]] = field(default_factory=lambda: defaultdict(list))  # of pages, also former ones
     _callers: dict[int, int] = field(default_factory=dict)  # the journal's numbers of tasks
@@ -177,8 +177,8 @@ class State:
         return bool(self._doubts) and self._doubts[-1][2] == FOREVER
 
     def doubt_at(self, time: int) -> Doubt | None:
-        """Returns why the events at a time are in doubt. A copy that is equal again shows the kernel's order, not the journal's (E), so
-        a doubt that has ended is one of the later events too."""
+        """Returns why the events at a time are in doubt: something at or before it. A copy that equals the queue ends the doubt of copies,
+        not that of events: it shows the kernel's order, from which the journal's differs (E)."""
         return next((why for why, begin, _ in self._doubts if begin <= time), None)
 
     def emit(self, task: int, page: Page, word: str, first: int = 0, count: int = 0, outcome: str = "", given: int = 0) -> None:
