@@ -19,7 +19,7 @@ from .calls import COLLAPSE, COPIED, MADVISE, MADV_COLLAPSE, has_succeeded
 from .observed import Observations
 from .queue_laws import QueueLaws
 from .reasons import Count, Doubt, Omission
-from .records import IN_FAULT, OBSERVED, QUEUE_MOST, WITH_QUEUE, Kind, Record
+from .records import IN_FAULT, JOINED, OBSERVED, QUEUE_MOST, WITH_QUEUE, Kind, Record
 from .scans import ScanEvents
 from .state import Page
 
@@ -40,13 +40,11 @@ class JournalBuilder(ScanEvents):
         laws = QueueLaws(self)
         handlers = [getattr(self, f"handle_{kind.name.lower()}", lambda record: None) for kind in Kind]  # a fault has only ended a step
         for record in records:
-            if record.kind in OBSERVED:  # none of these changes the journal
-                page, scan = self.at.get(record.values[0]), None if self.is_doubted else self.scans.get(record.task)
-                is_ordered = scan and len(self.scans) == len(scan.batches) == 1
-                self.observations.add(record, page.number if page else None, scan.start.queue if scan and is_ordered else None)
-                continue
             laws.see(record)
             self.now, self.task = record.time, record.task
+            if record.kind in OBSERVED:
+                self._add_observed(record)
+                continue
             if record.space_ends:
                 self.ends.update(record.space_ends)
             if record.queue is None and len(self.queue) > QUEUE_MOST and record.kind in WITH_QUEUE:
@@ -59,6 +57,20 @@ class JournalBuilder(ScanEvents):
                 self._end_last_step(record)
             if not record.is_applied:
                 handlers[record.kind](record)
+
+    def _add_observed(self, record: Record) -> None:
+        """Notes what function tracing has observed, and emits the event by which a page has joined the queue."""
+        page, scan = self.at.get(record.values[0]), None if self.is_doubted else self.scans.get(record.task)
+        is_ordered = scan and len(self.scans) == len(scan.batches) == 1
+        self.observations.add(record, page.number if page else None, scan.start.queue if scan and is_ordered else None)
+        if page is None or record.kind is not Kind.QUEUED or record.values[3] & 3 != JOINED or page.is_taken:
+            return
+        if self.joining.get(record.task) is page:  # at its fault
+            del self.joining[record.task]
+            if self.queue[-1] is not page:
+                self.move_to_end({page})
+        elif page not in self.queue:
+            self.emit_join(page, [page.folio])
 
     def _end_last_step(self, record: Record) -> None:
         """Ends what a task's last record has begun: its next record shows that it is over."""

@@ -1,9 +1,18 @@
-"""What a copy of the queue proves of the kernel by itself, whatever the journal infers."""
+"""What the records prove of the kernel by themselves, whatever the journal infers. A walk of the queue takes no lock and a while; a page that
+is freed or made meanwhile may be met at any place.
+
+The order of two copies proves something where each scan that ran since the first was begun had taken its pages before: it takes them in one
+step, before it frees a frame of one of them. Then the pages that both copies show have stayed in their order, and all others follow them.
+"""
 
 from __future__ import annotations
 
+from dataclasses import dataclass, field
+from typing import AbstractSet
+
 from .reasons import Count
 from .records import Kind, Record
+from .scans import batches_of
 from .state import State
 
 SOON = 1000000  # ns in which nothing makes a page again and queues it unseen
@@ -11,14 +20,28 @@ MANY = 4096  # pages of which is kept when they were freed or made
 PLACES = {Kind.FREE: 0, Kind.ALLOC: 0, Kind.MOVED: 1, Kind.COLLAPSED: 2}  # of the page freed or made among a record's values
 
 
+@dataclass
+class RunningScan:
+    """A scan that runs: the pages in the queue at its start, whether the core asks it for one batch, when it had taken its pages
+    (0: not known), and the frames that it has freed."""
+
+    pages: AbstractSet[int]
+    takes_once: bool
+    taken: int = 0
+    frames: set[int] = field(default_factory=set)
+
+
 class QueueLaws:
-    """Looks at the copies of records. A walk of the queue takes no lock: what was freed, made or taken meanwhile may be met twice."""
+    """Looks at the records. Of each law it counts what contradicts it."""
 
     def __init__(self, state: State) -> None:
-        self._tallies = state.tallies
-        self._running: set[int] = set()  # tasks of scans that run
+        self._tallies, self._mask = state.tallies, -(state.page_size << state.order)
+        self._running: dict[int, RunningScan] = {}  # by tasks
         self._ended = 0  # when a scan ended last
+        self._settled = 0  # until when scans that have ended may have taken pages
         self._changed: dict[int, int] = {}  # when pages were last freed, or (below 0) made
+        self._last: list[int] = []  # the last copy
+        self._begun = 0  # and when that was
 
     def see(self, record: Record) -> None:
         """Takes the next record."""
@@ -27,19 +50,44 @@ class QueueLaws:
             self._note(record, record.values[PLACES[kind]])
         is_quiet = not self._running and self._ended < time
         self._tallies[Count.MET_TWICE] += bool(record.twice) and is_quiet and abs(changed.get(record.twice, 0)) < time
+        self._tallies[Count.FOREIGN] += bool(record.foreign)
         if record.queue is not None:
             freed = (changed[folio] for folio in changed.keys() & record.queue)
             self._tallies[Count.QUEUED_FREE] += sum(0 < each < time < each + SOON for each in freed)
-        if kind is Kind.SCAN:
-            self._running.add(record.task)
+            self._compare(record.queue, time)
+        if kind is Kind.TRIED and record.task in self._running:
+            scan = self._running[record.task]
+            scan.taken = scan.taken or record.values[1]
+        elif kind is Kind.SCAN:
+            self._running[record.task] = RunningScan({*(record.queue or ())}, len([*batches_of(*record.values[:2])]) < 2)
         elif kind is Kind.SCANNED:
-            self._running.discard(record.task)
+            scan = self._running.pop(record.task, None)
             self._ended = max(self._ended, time)
+            self._settled = max(self._settled, scan.taken if scan and scan.takes_once and scan.taken else time)
 
-    def _note(self, record: Record, folio: int) -> None:
+    def _note(self, record: Record, page: int) -> None:
         """Notes that a page or a frame was freed, or a page made."""
         is_free, changed = record.kind is Kind.FREE, self._changed
-        if not is_free or record.values[1] or folio in changed:
-            changed[folio] = record.time if is_free else -record.time
+        is_frame = is_free and record.values[1] == 0
+        if not is_frame or page in changed:
+            changed[page] = record.time if is_free else -record.time
         if len(changed) > MANY:
             self._changed = {each: time for each, time in changed.items() if abs(time) > record.time - SOON}
+            self._last = []
+        scan = self._running.get(record.task) if is_frame else None
+        if scan and page & self._mask in scan.pages:
+            self._tallies[Count.FREED_TWICE] += bool(record.values[2]) and page in scan.frames
+            scan.frames.add(page)
+            scan.taken = scan.taken or record.time
+
+    def _compare(self, queue: list[int], begun: int) -> None:
+        """Compares a copy with the last one."""
+        last, since, changed = self._last, min(self._begun, begun), self._changed
+        self._last, self._begun = queue, begun
+        if queue[: len(last)] == last or self._settled >= since:
+            return
+        if all(scan.takes_once and 0 < scan.taken < since for scan in self._running.values()):
+            steady = [folio for folio in queue if abs(changed.get(folio, 0)) < since]
+            members = {*steady}
+            stayed = [folio for folio in last if folio in members]
+            self._tallies[Count.OVERTAKEN] += steady[: len(stayed)] != stayed

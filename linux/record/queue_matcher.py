@@ -71,15 +71,18 @@ class QueueMatcher(MappingEvents):
                 self.apply(self.pending.pop(made[folio]), queue)
                 continue
             page = self.at.get(folio)
-            if not page or folio in own_queue or page.is_taken or page.born > self.now:
-                continue
-            for call in self.calls_reaching(page):
-                if page not in self.queue:
-                    self.apply_early(call, page, queue)
-            if page not in self.queue and page.is_live:
-                self.begin_end(page, queue)
-            if page not in self.queue and page.is_live:
-                self.omit(page, Omission.UNKNOWN_JOIN)
+            if page and folio not in own_queue and not page.is_taken and page.born <= self.now:
+                self.emit_join(page, queue)
+                if page not in self.queue and page.is_live:
+                    self.omit(page, Omission.UNKNOWN_JOIN)
+
+    def emit_join(self, page: Page, queue: list[int]) -> None:
+        """Emits the event by which a page has joined the queue, if a call that runs or a process that is ending explains it."""
+        for call in sorted(self.calls_reaching(page), key=lambda call: call.task != self.task):
+            if page not in self.queue:
+                self.apply_early(call, page, queue)
+        if page not in self.queue and page.is_live:
+            self.begin_end(page, queue)
 
     def _emit_leave(self, page: Page, queue: list[int]) -> None:
         """Emits the event by which a page of our queue has left the kernel's."""

@@ -47,6 +47,7 @@ class Doubt(Reason):
     MANY_PAGES = "more than 4096 pages at once, for which a journal has no room", Origin.LIMIT, "record a part of the program"
     LONG_QUEUE = "more than 500 pages in the queue, for which copies have no room", Origin.LIMIT, SHORT
     OVERLAP = "scans that overlap: their order isn't known", Origin.LIMIT, FEWER
+    BATCHES = "scans of several batches, while pages joined and left the queue", Origin.LIMIT, SHORT
     MISSING = "scans that no copy of the queue shows", Origin.LIMIT, FEWER
     QUEUES = "copies of the queue differ where its order isn't known", Origin.LIMIT, FEWER
 
@@ -94,6 +95,9 @@ class Count(Reason):
     QUEUES_DIFFER = "queues that differ", Origin.KERNEL
     MET_TWICE = "copies of the queue with a page twice, while no scan ran", Origin.KERNEL
     QUEUED_FREE = "pages in the queue after they were freed", Origin.KERNEL
+    OVERTAKEN = "copies of the queue with a page before older ones, which no scan has moved", Origin.KERNEL
+    FOREIGN = "copies of the queue with a page of another group", Origin.KERNEL
+    FREED_TWICE = "frames that a scan freed twice", Origin.KERNEL
     QUEUED_SEEN = "pages queued, as a copy showed"
     QUEUED_INFERRED = "pages queued, as inferred"
     MAP_COUNTS_COMPARED = "map counts compared"
@@ -104,7 +108,7 @@ class Count(Reason):
     WITHOUT_FAULT = "allocations without a fault, not followed", Origin.LIMIT
 
 
-PROVED = (Count.MET_TWICE, Count.QUEUED_FREE)  # by copies alone: any makes a recording differ
+PROVED = (Count.MET_TWICE, Count.QUEUED_FREE, Count.OVERTAKEN, Count.FOREIGN, Count.FREED_TWICE)  # by records alone: any makes a recording differ
 
 
 def describe(reason: Reason) -> str:

@@ -35,7 +35,7 @@ class Kind(enum.IntEnum):
     EXIT = 1  # it ends (number, arguments, answer, and of the page at the first one the folio and map counts)
     FAULT = 2  # a page fault (address, error code); only a task's first one after an ALLOC or a COPY of its own
     ALLOC = 3  # a huge page is allocated (folio, order, how, the fault's address, its error code)
-    FREE = 4  # a page is freed in a block where a huge page was made (folio, order)
+    FREE = 4  # a page is freed in a block where a huge page was made (folio, order; 1: a frame again, by a scan, with no ALLOC between)
     FORK = 5  # a process or thread begins (parent's mm, child's mm, child's tgid)
     EXIT_MMAP = 6  # an address space has ended (mm)
     SCAN = 7  # the shrinker begins on the queue (how many it may scan, how many are freeable)
@@ -78,6 +78,7 @@ class Record:
     folios_made: dict[int, int] | None = None  # of a scan: folios that were allocated until its end, and when last
     space_ends: dict[int, Record] | None = None  # the ends of the address spaces that this record shows first
     twice: int = 0  # a folio that the walk met twice; there is no queue then
+    foreign: int = 0  # a folio of the queue that is another group's
 
     def queue_at_end(self) -> list[int] | None:
         """Returns the queue at a scan's end, by its own copy or the next."""
@@ -93,18 +94,19 @@ class Record:
 def parse_record(raw: bytes, place: int = 0) -> Record:
     """Returns a record by its bytes, which begin at a place."""
     words, at = HEAD.unpack_from(raw, place), place + HEAD.size
-    (kind, has_queue), count = _KINDS[words[0]], words[14]
+    (kind, has_queue), count, mark = _KINDS[words[0]], words[14] & _WORD, words[14] >> 32
     queue: list[int] | None = None
-    contents, twice = None, 0
+    contents, twice, foreign = None, 0, 0
     if has_queue and count <= QUEUE_MOST:
         folios = struct.unpack_from(f"<{count}Q", raw, at)
         if len({*folios}) < count:  # a walk of a list that changes may meet a page again
             twice = next(folio for folio in folios if folios.count(folio) > 1)
         else:
             queue = [*folios]
+        foreign = folios[mark - 1] if 0 < mark <= count else 0
     elif kind is Kind.CONTENTS:
         contents = int.from_bytes(raw[at : at + SET], "little"), int.from_bytes(raw[at + SET : at + 2 * SET], "little")
-    return Record(kind, words[1], words[2] & _WORD, words[3], words[4:13], queue, contents, False, words[13], words[15], twice=twice)
+    return Record(kind, words[1], words[2] & _WORD, words[3], words[4:13], queue, contents, False, words[13], words[15], twice=twice, foreign=foreign)
 
 
 class Store(ScratchFile):

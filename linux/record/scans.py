@@ -41,7 +41,7 @@ class ScanEvents(QueueMatcher):
         joining = [page for page in self.joining.values() if page.folio not in record.queue]
         batches = [*batches_of(*record.values[:2])]
         pages = [page if page and page.born <= record.time else None for page in map(self.at.get, record.queue)]
-        self.scans[record.task] = Scan(record, pages, joining, batches, sum(count for _, count in batches))
+        self.scans[record.task] = Scan(record, pages, joining, batches, sum(count for _, count in batches), self.changes)
 
     def handle_scanned(self, record: Record, observed: list[int] | None = None) -> None:
         """Emits a scan that has ended; `observed`: the queue that shows it, if its end isn't recorded yet."""
@@ -54,6 +54,8 @@ class ScanEvents(QueueMatcher):
         if not scan.batches or not scan.pages:
             self.match(own)
             return
+        if len(scan.batches) > 1 and self.changes > scan.changes:
+            self.begin_doubt(Doubt.BATCHES)
         self.emitted_until = max(self.emitted_until, min(record.time, self.now))
         queue = record.queue_at_end() if observed is None else observed
         if queue is None:
@@ -88,7 +90,7 @@ class ScanEvents(QueueMatcher):
         if not self.scans:
             return
         own_queue = {page.folio for page in self.queue}
-        for start, reach in [(scan.start, scan.reach) for scan in self.scans.values()]:
+        for start, reach in [(scan.start, scan.reach) for scan in self.scans.values() if len(scan.batches) < 2]:
             end = start.end and start.end.queue_at_end()
             if not start.end or not end or not start.queue or queue is None or self.now < start.time:
                 continue  # a copy that was begun before the scan shows nothing of it

@@ -94,6 +94,7 @@ class Scan:
     joining: list[Page]
     batches: list[tuple[int, int]]  # that aren't emitted, as (first, count)
     reach: int  # of the pages, how many it may take
+    changes: int  # of the queue, before it
     split: list[Page] = field(default_factory=list)  # the pages that it has split so far
     taken: list[Page] = field(default_factory=list)  # by the first of these batches, if that is emitted
 
@@ -123,6 +124,7 @@ class State:
     pending: dict[tuple[int, Kind], Record] = field(default_factory=dict)  # calls, collapses, copies that run, by task
     scans: dict[int, Scan] = field(default_factory=dict)  # those that run, by task
     is_missing: bool = False  # a scan wasn't followed
+    changes: int = 0  # of the queue, but for those by scans
     now: int = 0  # the time of the current record
     task: int = 0  # and its task
     _doubts: list[tuple[Doubt, int, int]] = field(default_factory=list)  # why the queue's order isn't known, from when to when
@@ -232,6 +234,7 @@ class State:
 
     def enqueue(self, page: Page) -> None:
         """Adds a page to the queue, by the event emitted last."""
+        self.changes += 1
         self.queue.append(page)
         self.journal_queue.append(page)
         page.join = self.lines.latest[-1] if self.lines.latest else None
@@ -258,6 +261,7 @@ class State:
 
     def remove_page(self, page: Page) -> None:
         """Removes a page that was freed."""
+        self.changes += page in self.queue
         page.is_live, page.held = False, 0
         self._live -= 1
         if self.at.get(page.folio) is page:  # another page may have the folio already

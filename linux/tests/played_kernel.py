@@ -41,15 +41,12 @@ class PlayedPage:
 
 
 class PlayedKernel:
-    """Threads of one process, and scans. `records` are those that a recording of them has. A `bug` is one of:
+    """Threads of one process, and scans. `records` are those that a recording of them has; `wrong`: how often it did wrong. A `bug` is one of:
 
-    shuffled    a scan tries its pages, and puts them back, in a random order
-    forward     in the order of taking, as the model does
-    newest      a scan takes the newest pages
-    head        a scan puts pages back at the queue's head
+    first       a page joins at the queue's head
+    head        a scan puts pages back there
     twice       a page joins the queue twice
     foreign     a page of another group joins too
-    short       a split gives back a frame less
     double      a split gives back a frame twice
     taken       a page is freed while a scan holds it
     """
@@ -60,7 +57,9 @@ class PlayedKernel:
         self.queue: list[PlayedPage] = []
         self._one_by_one, self._threshold, self._bug = one_by_one, threshold, bug
         self._foreign = itertools.count()
-        self._free = list(range(4 * threads))  # frames of huge pages, which are used again
+        self.wrong = 0
+        self._places_each = max(2, 8 // threads)  # of a thread, for pages
+        self._free = list(range(2 * self._places_each * threads))  # frames of huge pages, which are used again
         self._places: dict[int, PlayedPage | None] = {}  # by address
         self._tasks = [self._work(number) for number in range(1, threads + 1)]
         self._tasks += [self._scan_again(SCANNER + number) for number in range(scanners)]
@@ -74,11 +73,12 @@ class PlayedKernel:
     def _record(self, kind: Kind, task: int, values: list[int], with_queue: bool = False) -> None:
         queue = [page.folio for page in self.queue] if with_queue else None
         padded = (*values, *[0] * (9 - len(values)))
-        self.records.append(Record(kind, STEP * (1 + len(self.records)), task, SPACE, padded, queue))
+        foreign = next((folio for folio in queue or () if folio >= FOREIGN), 0)
+        self.records.append(Record(kind, STEP * (1 + len(self.records)), task, SPACE, padded, queue, foreign=foreign))
 
     def _work(self, task: int) -> Steps:
-        """A thread with two places for pages."""
-        addresses = [PMD * (10 * task + i) for i in range(2)]
+        """A thread with places for pages."""
+        addresses = [PMD * (10 * task + i) for i in range(self._places_each)]
         while True:
             address = self.chance.choice(addresses)
             page, deed = self._places.get(address), self.chance.randrange(8)
@@ -137,20 +137,24 @@ class PlayedKernel:
         self._put(task, page)
 
     def _has_bug(self, bug: str, of: int = 4) -> bool:
-        """Returns whether it has a bug, once of so many times."""
-        return bool(bug) and self._bug == bug and not self.chance.randrange(of)
+        """Returns whether it does wrong now, once of so many times."""
+        is_now = bool(bug) and self._bug == bug and not self.chance.randrange(of)
+        self.wrong += is_now
+        return is_now
 
     def _join(self, page: PlayedPage) -> None:
         if not page.is_listed:
             page.is_listed = True
             self.queue += [page, page] if self._has_bug("twice") else [page]
+            if self._has_bug("first") and len(self.queue) > 1:
+                self.queue.insert(0, self.queue.pop())
             if self._has_bug("foreign"):
                 self.queue.append(PlayedPage(FOREIGN + PAGE_SIZE * SUBPAGES * next(self._foreign), 0, EVERY, 1, 1, True, True))
 
     def _put(self, task: int, page: PlayedPage) -> None:
         """Frees a page that nothing holds any more."""
-        is_held = page.holders and self._bug != "taken"
-        if not (page.mapped or page.pins or is_held or page.is_split or page.is_free):
+        is_last = not (page.mapped or page.pins or page.is_split or page.is_free)
+        if is_last and (not page.holders or self._has_bug("taken", 1)):
             self._leave(page)
             self._record(Kind.FREE, task, [page.folio, 9])
             self._release(page)
@@ -163,9 +167,9 @@ class PlayedKernel:
             page.is_free = True
             self._free.append((page.folio - FIRST_FOLIO) // (PAGE_SIZE * SUBPAGES))
 
-    def _free_frames(self, task: int, page: PlayedPage, bits: int) -> None:
+    def _free_frames(self, task: int, page: PlayedPage, bits: int, again: int = 0) -> None:
         for number in [number for first, count in runs(bits) for number in range(first, first + count)]:
-            self._record(Kind.FREE, task, [page.folio + PAGE_SIZE * number, 0])
+            self._record(Kind.FREE, task, [page.folio + PAGE_SIZE * number, 0, again])
 
     def _scan_again(self, task: int) -> Steps:
         while True:
@@ -176,19 +180,19 @@ class PlayedKernel:
     def _scan(self, task: int) -> Steps:
         freeable = len(self.queue)
         yield
-        total = freeable + (0 if self._has_bug(self._bug, 2) else self.chance.randrange(freeable + 1))
+        total = freeable + self.chance.randrange(freeable + 1)
         self._record(Kind.SCAN, task, [total, freeable], True)
         if not total:
             self._record(Kind.SCANNED, task, [0, 0], True)
             return
         yield
-        taken = self.queue[-total:] if self._bug == "newest" else self.queue[:total]
+        taken = self.queue[:total]
         for page in taken:
             self._leave(page)
             page.holders += 1
         back: list[PlayedPage] = []
         split = 0
-        for page in self._order_of_tries([*dict.fromkeys(taken)]):
+        for page in [*dict.fromkeys(taken)][::-1]:
             yield
             if self._one_by_one:
                 page.is_listed = False
@@ -197,7 +201,7 @@ class PlayedKernel:
             yield
             if stays and self._one_by_one and not page.is_split:  # by another scan, which a call's queueing gave it
                 self._join(page)
-                if self._bug == "head":
+                if len(self.queue) > 1 and self._has_bug("head", 1):
                     self.queue.insert(0, self.queue.pop())
             elif stays and not self._one_by_one:
                 back.append(page)
@@ -205,17 +209,11 @@ class PlayedKernel:
             page.is_listed = page.is_listed and self._one_by_one
             yield
             self._let_go(task, page)
-        self.queue = back + self.queue if self._bug == "head" else self.queue + back
+        self.queue = back + self.queue if back and self.queue and self._has_bug("head", 1) else self.queue + back
         yield
         for page in back:
             self._let_go(task, page)
         self._record(Kind.SCANNED, task, [0, split], True)
-
-    def _order_of_tries(self, taken: list[PlayedPage]) -> list[PlayedPage]:
-        """Returns the pages that a scan has taken in the order in which it tries them: the newest first."""
-        if self._bug == "shuffled":
-            self.chance.shuffle(taken)
-        return taken if self._bug in ("shuffled", "forward") else taken[::-1]
 
     def _let_go(self, task: int, page: PlayedPage) -> None:
         page.holders -= 1
@@ -232,8 +230,9 @@ class PlayedKernel:
         page.is_split, page.is_listed = True, False
         self._leave(page)  # a call may have queued it meanwhile
         gone = EVERY & (~page.mapped | ~page.data)
-        self._free_frames(task, page, gone & (gone - 1) if self._bug == "short" else gone)
-        self._free_frames(task, page, gone & -gone if self._bug == "double" else 0)
+        self._free_frames(task, page, gone)
+        if gone and self._has_bug("double"):
+            self._free_frames(task, page, gone & -gone, 1)
         page.mapped &= page.data
         if not page.mapped:
             self._release(page)

@@ -51,7 +51,7 @@ class RowsTest(JournalCase):
             ("two address spaces in turn at one place", "page 0; free 0; d:exit > -; page 0; free 0; d:exit > -",
              f"{GONE}; alloc 1; unmapwhole 1 freed 0-511", (), None),
             ("a second page in one place is freed in its own fault", "page 0; o:page 0 1; o:free 1; drop 0 0 8 > 0", PARTLY, (), None),
-            ("a page joins unseen", f"{two}; look > 1 0", PARTLY, [Omission.UNKNOWN_JOIN], None),
+            ("a page joins unseen", f"{two}; look > 0 1", PARTLY, [Omission.UNKNOWN_JOIN], None),
             ("a page goes unseen", f"{two}; look > -", "alloc 0", [Omission.UNSEEN_COLLAPSE], None),
             ("a page joins at its fault after a pinned one is put back", "divided 1; d:begin > 0; page 1; look > 0 1; d:end > 0 1",
              "alloc 1", (), 100),

@@ -126,7 +126,8 @@ def pack_record(record: Record) -> bytes:
         rest, count = b"".join(each.to_bytes(SET, "little") for each in record.contents), 2 * SET // 8
     else:
         queue = record.queue or []
-        rest, count = struct.pack(f"<{len(queue)}Q", *queue), QUEUE_MOST + 1 if record.queue is None else len(queue)
+        mark = queue.index(record.foreign) + 1 << 32 if record.foreign else 0
+        rest, count = struct.pack(f"<{len(queue)}Q", *queue), QUEUE_MOST + 1 if record.queue is None else len(queue) | mark
     return HEAD.pack(record.kind, record.time, record.task, record.space, *record.values, 0, count, 0) + rest
 
 
