@@ -63,7 +63,7 @@ def check_recording(options: Namespace, recording: Recording, page_size: int, ou
                 threshold = recording.threshold if order == PMD_ORDER else None  # only pages of PMD size can be underused
                 builders.append(JournalBuilder(order, threshold, page_size, track.folios, options.order))
                 stack.callback(builders[-1].lines.close)
-                builders[-1].add_records(track.store.records())
+                builders[-1].add_records(track.store.records(), track.store.batches)
         journal = stack.enter_context(closing(JournalFile(builders)))
         outputs.write("journal", journal.pieces())
         times = itertools.chain.from_iterable(builder.times() for builder in builders)

@@ -19,28 +19,30 @@ from .calls import COLLAPSE, COPIED, MADVISE, MADV_COLLAPSE, has_succeeded
 from .observed import Observations
 from .queue_laws import QueueLaws
 from .reasons import Count, Doubt, Omission
-from .records import IN_FAULT, JOINED, OBSERVED, QUEUE_MOST, WITH_QUEUE, Kind, Record
-from .scans import ScanEvents
+from .records import IN_FAULT, JOINED, OBSERVED, QUEUE_MOST, WITH_QUEUE, Batch, Kind, Record
 from .state import Page
+from .traced_scans import TracedScans, with_bounds
 
 WRITTEN = 3  # bits of a fault's error code: present, written
 MOVES = 1024  # pages that a task has mapped again before it frees the old ones
 
 
 @dataclass(eq=False)
-class JournalBuilder(ScanEvents):
+class JournalBuilder(TracedScans):
     """Builds the events of one node from records: `handle_` and the kind of a record name what takes it."""
 
     observations: Observations = field(default_factory=Observations)
     _fault_pages: dict[int, Page] = field(default_factory=dict)  # by tasks whose last record was this allocation
     _moves: dict[int, deque[Record]] = field(default_factory=lambda: defaultdict(lambda: deque(maxlen=MOVES)))  # by tasks
 
-    def add_records(self, records: Iterable[Record]) -> None:
-        """Adds all records of a run; a Store has linked them."""
+    def add_records(self, records: Iterable[Record], batches: Iterable[Batch] | None = None) -> None:
+        """Adds all records of a run; a Store has linked them, and found the batches of scans."""
+        self.batches = None if batches is None else deque(batches)
         laws = QueueLaws(self)
         handlers = [getattr(self, f"handle_{kind.name.lower()}", lambda record: None) for kind in Kind]  # a fault has only ended a step
-        for record in records:
+        for record, until in with_bounds(records):
             laws.see(record)
+            self.begin_batches(until)
             self.now, self.task = record.time, record.task
             if record.kind in OBSERVED:
                 self._add_observed(record)
@@ -62,12 +64,15 @@ class JournalBuilder(ScanEvents):
         """Notes what function tracing has observed, and emits the event by which a page has joined the queue."""
         page, scan = self.at.get(record.values[0]), None if self.is_doubted else self.scans.get(record.task)
         is_ordered = scan and len(self.scans) == len(scan.batches) == 1
-        self.observations.add(record, page.number if page else None, scan.start.queue if scan and is_ordered else None)
+        queue = [each.folio if each else 0 for each in scan.pages] if scan and is_ordered else None
+        self.observations.add(record, page.number if page else None, queue)
+        if record.kind is Kind.BATCH:
+            self.end_batch(record.task)
         if page is None or record.kind is not Kind.QUEUED or record.values[3] & 3 != JOINED or page.is_taken:
             return
         if self.joining.get(record.task) is page:  # at its fault
             del self.joining[record.task]
-            if self.queue[-1] is not page:
+            if page in self.queue[:-1]:
                 self.move_to_end({page})
         elif page not in self.queue:
             self.emit_join(page, [page.folio])

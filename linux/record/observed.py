@@ -66,7 +66,7 @@ class Observations:
                     contradicted.add(page)
                 number += 1
             if " freed " in text:
-                del pages[page]
+                pages.pop(page, None)
         state.tallies[Count.CONTRADICTED] += len(self.contradictions)
         state.left_out += len(contradicted)
         return number

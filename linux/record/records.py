@@ -12,6 +12,7 @@ import os
 import struct
 from array import array
 from bisect import bisect
+from collections import defaultdict
 from dataclasses import dataclass
 from typing import Callable, Iterator
 
@@ -109,13 +110,26 @@ def parse_record(raw: bytes, place: int = 0) -> Record:
     return Record(kind, words[1], words[2] & _WORD, words[3], words[4:13], queue, contents, False, words[13], words[15], twice=twice, foreign=foreign)
 
 
+@dataclass(eq=False)
+class Batch:
+    """A batch of a scan, as function tracing observed it: when the task took and ended it, and the pages that it tried, in that
+    order, each with the answer of its split (0: it is split)."""
+
+    task: int
+    begin: int
+    end: int
+    tries: dict[int, int]
+
+
 class Store(ScratchFile):
-    """Records of one queue. Records may be written to the end of its `descriptor`."""
+    """Records of one queue. Records may be written to the end of its `descriptor`. `batches`: those that were observed, by their begins;
+    None: functions weren't traced."""
 
     def __init__(self, folder: str = FOLDER) -> None:
         super().__init__("the records", folder)
         self.count = 0  # of the records
         self.report: Callable[[float], None] = lambda share: None  # is called now and then with the share of a pass that is over
+        self.batches: list[Batch] | None = None
         self._made = array("Q"), array("Q"), array("Q")  # of each huge page allocated: its record's place, folio and time
 
     def add(self, raw: bytes) -> None:
@@ -128,11 +142,18 @@ class Store(ScratchFile):
         copy of the queue with the next one, and the first record of each address space with the space's end, which gets the time from
         when on nothing else was recorded of the space."""
         linker = _Linker(self)
+        tries: dict[int, dict[int, int]] = defaultdict(dict)  # of tasks that scan
+        batches: list[Batch] = []
         for at, record in self._walk(with_frees=False):
             linker.see(at, record)
+            if record.kind is Kind.TRIED and record.values[4]:
+                tries[record.task][record.values[0]] = record.values[2]
+            elif record.kind is Kind.BATCH:
+                batches.append(Batch(record.task, record.values[1], record.time, tries.pop(record.task, {})))
             if record.kind is Kind.ALLOC:
                 for values, value in zip(self._made, (at, record.values[0], record.time)):
                     values.append(value)
+        self.batches = sorted(batches, key=lambda batch: batch.begin) or None
 
     def records(self) -> Iterator[Record]:
         """Yields the linked records in order."""

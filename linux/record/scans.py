@@ -3,7 +3,7 @@
 from __future__ import annotations
 
 from dataclasses import dataclass
-from typing import Collection, Iterator
+from typing import Collection, Iterator, Sequence
 
 from ..common.subpages import runs, size
 from .queue_matcher import QueueMatcher
@@ -79,7 +79,7 @@ class ScanEvents(QueueMatcher):
         while scan.batches:
             stays += self._end_batch(scan, found, queue)
         kernels = [page for page in found if page]
-        self._postpone_joins(kernels, [page for page in stays if not page.is_omitted], scan)
+        self._postpone_joins(kernels, [page for page in stays if not page.is_omitted], scan.pages)
         self._put_between(stays, kernels)
         self.match(own)
 
@@ -222,12 +222,12 @@ class ScanEvents(QueueMatcher):
         given = size(page.freed_frames & page.held)
         return bool(given) and not page.is_freed and given <= (self.underused or page.subpages)
 
-    def _postpone_joins(self, kernels: list[Page], stay: list[Page], scan: Scan) -> None:
+    def _postpone_joins(self, kernels: list[Page], stay: list[Page], taken: Sequence[Page | None]) -> None:
         """Moves events of pages that joined while the scan ran, and follow the pages put back, after the scan."""
         if not stay:
             return
         edge, mine = max(map(kernels.index, stay)), self.queue.index(stay[0])
-        self.move_to_end({page for page in kernels[edge + 1 :] if page in self.queue[:mine] and page not in scan.pages})
+        self.move_to_end({page for page in kernels[edge + 1 :] if page in self.queue[:mine] and page not in taken})
 
     def _order_by_journal(self, pages: list[Page]) -> list[Page]:
         """Returns the pages of a batch in the journal's order. If others are older there, though not in the kernel's queue, since the
