@@ -37,7 +37,7 @@ static __always_inline int enter(enum kind kind, struct folio *folio, bool is_ou
 	if (function->began && function->folio == (__u64)folio)
 		return 0;
 	if (function->began)
-		__sync_fetch_and_add(&counters.missed, 1);	/* the end of its last call */
+		__sync_fetch_and_add(&counters.unobserved, 1);	/* the end of its last call */
 	*function = (struct thp_function){ bpf_ktime_get_ns(), (__u64)folio, is_linked(folio) };
 	return 0;
 }
@@ -55,7 +55,7 @@ static __always_inline int leave(enum kind kind, struct folio *folio, bool is_ou
 	function = &state->functions[kind - QUEUED];
 	began = function->began;
 	if (!began && function->folio != (__u64)folio && is_ours)
-		__sync_fetch_and_add(&counters.missed, 1);	/* its begin */
+		__sync_fetch_and_add(&counters.unobserved, 1);	/* its begin */
 	if (!began)
 		return 0;
 	function->began = 0;

@@ -64,15 +64,34 @@ static const struct thp_space blank;
 /*
  * Programs in three copies. The kernel leaves a program out where it would run within itself on a processor: in an interrupt, and where
  * programs can be preempted (Linux 7), in another task. So each tracepoint has three programs, and what the first one that runs has done,
- * the others don't do again: a free has its bit, what a task does is in its state. All three are left out only where three other
- * tasks were preempted in one of them each: no processor has three contexts below the one in which a page is freed.
+ * the others don't do again: a free has its bit, what a task does is in its state; and a program isn't preempted but at its first and
+ * last instructions. All three are left out only where three other tasks were preempted there in one of them each: no processor has
+ * three contexts below the one in which a page is freed.
  */
+extern void bpf_preempt_disable(void) __ksym __weak;	/* Linux 6.10 */
+extern void bpf_preempt_enable(void) __ksym __weak;
+
+static __always_inline void keep_processor(void)
+{
+	if (bpf_preempt_disable)
+		bpf_preempt_disable();
+}
+
+static __always_inline int leave_processor(int result)
+{
+	if (bpf_preempt_enable)
+		bpf_preempt_enable();
+	return result;
+}
+
 #define ONE_COPY(section, name, number, call, arguments...)	\
 SEC(section)							\
 int BPF_PROG(name, arguments)					\
 {								\
 	enum { copy = number };					\
-	return call;						\
+								\
+	keep_processor();					\
+	return leave_processor(call);				\
 }
 
 #define IN_COPIES(section, name, call, arguments...)		\

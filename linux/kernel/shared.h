@@ -34,7 +34,8 @@ struct thp_settings {
 
 struct thp_counters {
 	unsigned long long lost;	/* records that found no room */
-	unsigned long long missed;	/* ends of calls that no program saw */
+	unsigned long long missed;	/* ends of system calls that no program saw */
+	unsigned long long unobserved;	/* begins and ends of the kernel's functions that none saw */
 	unsigned long long inner_pages;	/* huge pages of groups in the recorded one */
 	unsigned long long refused;	/* why no functions are traced: an error number; 0: they are */
 };

@@ -15,7 +15,7 @@ from typing import Iterable
 
 from ..common.files import BASE, PMD_ORDER
 from ..common.subpages import runs
-from .calls import COLLAPSE, COPIED, MADVISE, MADV_COLLAPSE, has_succeeded
+from .calls import COLLAPSE, COPIED, MADVISE, MADV_COLLAPSE, has_succeeded, list_effects
 from .observed import Observations
 from .queue_laws import QueueLaws
 from .reasons import Count, Doubt, Omission
@@ -91,7 +91,11 @@ class JournalBuilder(TracedScans):
         self.pending[record.task, kind] = Record(kind, record.time, record.task, space, values, None)
 
     def handle_enter(self, record: Record) -> None:
-        """A system call runs from here on."""
+        """A system call runs from here on. The end of the task's last call wasn't recorded if that runs, too: it isn't known what it did."""
+        missed = self.pending.get((record.task, Kind.ENTER))
+        for effect in list_effects(missed) if missed else ():
+            for page in self.pages_between(missed.space, effect.start, effect.end):
+                self.omit(page, Omission.MISSED_END)
         self.pending[record.task, Kind.ENTER] = record
 
     def handle_exit(self, record: Record) -> None:

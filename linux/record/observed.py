@@ -14,7 +14,8 @@ SLACK = 2 * 10 ** 9  # ns by which an observation may be recorded after the line
 
 
 class Observation(NamedTuple):
-    """A page's join or try, by whose `end` it was. A try has the times of its scan. `is_misplaced`: other pages came before it."""
+    """A page's join or try, by whose `end` it was in the queue or back. A try has the begin of its scan, and the scan's end where all pages
+    are put back then. `is_misplaced`: other pages came before it. `known`: when it was recorded."""
 
     page: int
     is_try: int
@@ -22,6 +23,10 @@ class Observation(NamedTuple):
     is_misplaced: int
     begin: int
     end: int
+    known: int
+
+
+IS_MISPLACED, END = map(Observation._fields.index, ("is_misplaced", "end"))
 
 
 class Observations:
@@ -29,24 +34,30 @@ class Observations:
 
     def __init__(self) -> None:
         self.numbers = array("Q")
-        self._tries: dict[int, list[tuple[int, int, int]]] = defaultdict(list)  # of scans that run, by task: page, folio, result
+        self._tries: dict[int, list[tuple[int, int]]] = defaultdict(list)  # of scans that run, by task: folio, place among the numbers
         self.contradictions: list[tuple[int, str]] = []
+        self._puts_at_once = False
         self._latest = 0, 0  # when the last join or put-back began at the earliest, and its line
         self._scans: dict[str, int] = {}  # by callers, when the scan of their batch began
 
     def add(self, record: Record, page: int | None, queue: list[int] | None) -> None:
         """Takes a record. `page`: the number of the page at its folio; `queue`: that before the task's batch, where it is known."""
-        folio, begin, result, linked, scan = record.values[:5]
+        folio, begin, failed, linked, scan = record.values[:5]
+        numbers = self.numbers
         if record.kind is Kind.BATCH:
             known, tries = queue or [], self._tries.pop(record.task, [])
-            places = [known.index(folio) for _, folio, _ in tries if folio in known]
-            is_misplaced = places not in (sorted(places), sorted(places, reverse=True))
-            for each, _, failed in tries:
-                self.numbers.extend((each, 1, failed != 0, is_misplaced, begin, record.time))
+            places = [known.index(folio) for folio, _ in tries if folio in known]
+            if places not in (sorted(places), sorted(places, reverse=True)):
+                for _, at in tries:
+                    numbers[at + IS_MISPLACED] = 1
+            for _, at in tries if self._puts_at_once else ():
+                numbers[at + END] = record.time
         elif page is not None and record.kind is Kind.TRIED and scan:
-            self._tries[record.task].append((page, folio, result))
+            self._puts_at_once = bool(linked & 1)  # it is still in the scan's list
+            self._tries[record.task].append((folio, len(numbers)))
+            numbers.extend((page, 1, failed != 0, 0, scan, record.time, record.time))
         elif page is not None and record.kind is Kind.QUEUED and linked & 3 == JOINED:
-            self.numbers.extend((page, 0, 0, 0, begin, record.time))
+            numbers.extend((page, 0, 0, 0, begin, record.time, record.time))
 
     def compare(self, state: State, number: int) -> int:
         """Compares a journal, whose first line has this number; returns that of the line after its last."""

@@ -41,7 +41,6 @@ class Doubt(Reason):
     """Why a verdict is inconclusive."""
 
     LOST = "records were lost", Origin.LIMIT, FEWER
-    MISSED = "runs of the trace programs were left out by the kernel", Origin.LIMIT, FEWER
     DISK_FULL = "records reached the limit of --disk", Origin.LIMIT, "a larger --disk, or a shorter time (--seconds)"
     FEW_FOLLOWED = "pages weren't followed, more than --require allows", Origin.LIMIT, "see what was left out"
     MANY_PAGES = "more than 4096 pages at once, for which a journal has no room", Origin.LIMIT, "record a part of the program"
@@ -64,6 +63,7 @@ class Omission(Reason):
     UNSEEN_COLLAPSE = "left the queue unseen: perhaps a collapse without a record", Origin.LIMIT, "a long --collapse"
     UNSEEN_SCAN = "left the queue unseen: perhaps a scan that isn't followed", Origin.LIMIT, FEWER
     PERHAPS_TAKEN = "joined at its fault while a scan ran, which perhaps took it", Origin.LIMIT, FEWER
+    MISSED_END = "reached by a call whose end no trace program saw: the kernel left them out", Origin.LIMIT, FEWER
     UNKNOWN_JOIN = "queued for no reason seen", Origin.LIMIT, AGAIN
     NOT_QUEUED = "partly mapped, and in no queue at the call's end", Origin.LIMIT, FEWER
     OVERLAPPED = "its place isn't known, since scans overlapped", Origin.LIMIT, FEWER
@@ -84,6 +84,7 @@ class Count(Reason):
     ZEROS_BACK = "splits that gave mapped zero-filled subpages back with the switch off (B)", Origin.KERNEL
     HELD_BY_SCAN = "last unmaps while a scan held the page (R)", Origin.KERNEL
     OBSERVED = "joins and tries observed as inferred"
+    UNOBSERVED = "functions' begins and ends that no trace program saw: the kernel left them out", Origin.LIMIT, FEWER
     CONTRADICTED = "events that observation contradicts", Origin.LIMIT, FEWER
     UNTRIED = "pages put back without a try, as observed: another task held their lock", Origin.KERNEL
     REQUEUED = "pages found in use by a scan, and queued again while it ran, as observed (U)", Origin.KERNEL

@@ -25,7 +25,7 @@ from ..common.page_files import numa_frames
 from ..common.reader import Reader
 from ..common.second_look import SecondLook
 from .commands import PAUSE, Commands, Interrupts
-from .reasons import Doubt
+from .reasons import Count, Doubt, Reason
 from .records import HEAD, SET, Kind, Store
 from .scratch import FOLDER
 
@@ -91,7 +91,7 @@ class Recording:
     """The records of each queue, and what else is known of them."""
 
     tracks: list[Track]
-    doubts: dict[Doubt, int]  # what makes the records incomplete
+    doubts: dict[Reason, int]  # what makes the records incomplete
     statuses: list[str]  # how the commands ended
     ended: str  # why they were ended; "" where they ended by themselves
     lacking: list[str]  # what this kernel doesn't report
@@ -204,6 +204,6 @@ def describe(tracks: list[Track], running: Commands, is_full: bool, ended: str, 
     inner = max(each.inner_pages for each in counters)
     if inner:
         lacking.append(f"control groups were made in the recorded one: {inner} huge pages of their tasks aren't followed")
-    lost, missed = sum(each.lost for each in counters), sum(each.missed for each in counters)
-    doubts = {Doubt.LOST: lost, Doubt.MISSED: missed, Doubt.DISK_FULL: is_full * sum(track.store.count for track in tracks)}
+    lost, unobserved = sum(each.lost for each in counters), sum(each.unobserved for each in counters)
+    doubts = {Doubt.LOST: lost, Doubt.DISK_FULL: is_full * sum(track.store.count for track in tracks), Count.UNOBSERVED: unobserved}
     return Recording(tracks, doubts, running.statuses(), ended, lacking, threshold)

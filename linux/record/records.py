@@ -12,7 +12,6 @@ import os
 import struct
 from array import array
 from bisect import bisect
-from collections import defaultdict
 from dataclasses import dataclass
 from typing import Callable, Iterator
 
@@ -112,13 +111,16 @@ def parse_record(raw: bytes, place: int = 0) -> Record:
 
 @dataclass(eq=False)
 class Batch:
-    """A batch of a scan, as function tracing observed it: when the task took and ended it, and the pages that it tried, in that
-    order, each with the answer of its split (0: it is split)."""
+    """A batch of a scan, as function tracing observed it: between what times the task took it, when it ended it, and the pages that it
+    tried, in that order, each with the answer of its split (0: it is split) and when that came. `puts_singly`: a page is put back after
+    its try (Linux 7), not at the end."""
 
     task: int
+    asked: int
     begin: int
     end: int
-    tries: dict[int, int]
+    tries: dict[int, tuple[int, int]]
+    puts_singly: bool
 
 
 class Store(ScratchFile):
@@ -141,19 +143,14 @@ class Store(ScratchFile):
         """Links the records, all of which have come: each scan and each allocation for a collapse with its end, a scan's end without a
         copy of the queue with the next one, and the first record of each address space with the space's end, which gets the time from
         when on nothing else was recorded of the space."""
-        linker = _Linker(self)
-        tries: dict[int, dict[int, int]] = defaultdict(dict)  # of tasks that scan
-        batches: list[Batch] = []
+        linker, batches = _Linker(self), _Batches()
         for at, record in self._walk(with_frees=False):
             linker.see(at, record)
-            if record.kind is Kind.TRIED and record.values[4]:
-                tries[record.task][record.values[0]] = record.values[2]
-            elif record.kind is Kind.BATCH:
-                batches.append(Batch(record.task, record.values[1], record.time, tries.pop(record.task, {})))
+            batches.see(record)
             if record.kind is Kind.ALLOC:
                 for values, value in zip(self._made, (at, record.values[0], record.time)):
                     values.append(value)
-        self.batches = sorted(batches, key=lambda batch: batch.begin) or None
+        self.batches = sorted(batches.found, key=lambda batch: batch.begin) or None
 
     def records(self) -> Iterator[Record]:
         """Yields the linked records in order."""
@@ -198,6 +195,25 @@ class Store(ScratchFile):
             rest, place = data[at:], place + at
         if rest:
             raise RunFailed("the records on disk end within a record")
+
+
+class _Batches:
+    """Looks at all records in order, and finds the batches of scans."""
+
+    def __init__(self) -> None:
+        self.found: list[Batch] = []
+        self._running: dict[int, Batch] = {}  # by tasks
+
+    def see(self, record: Record) -> None:
+        """Takes the next record."""
+        kind, task, (folio, begin, result, linked, scan, *_) = record.kind, record.task, record.values
+        if kind is Kind.TRIED and scan:
+            batch = self._running.setdefault(task, Batch(task, scan, begin, scan, {}, not linked & 1))
+            batch.tries[folio] = result, record.time
+        elif kind is Kind.BATCH or (kind is Kind.SCANNED and task in self._running):  # the end of the batch wasn't observed
+            batch = self._running.pop(task, None) or Batch(task, begin, begin, begin, {}, False)
+            batch.end = record.time
+            self.found.append(batch)
 
 
 class _Linker:

@@ -3,16 +3,21 @@ scans that overlap are in their order."""
 
 from __future__ import annotations
 
+from bisect import bisect_left
 from collections import deque
 from dataclasses import dataclass, field
+from itertools import groupby, islice
 from typing import Iterable, Iterator
 
+from .calls import list_removals
 from .reasons import Count, Doubt, Omission
 from .records import Batch, Kind, Record
 from .scans import BATCH, ScanEvents, batches_of
-from .state import Page, Scan
+from .state import CALLERS, Page, Scan, union_of
 
 WALK = 10 ** 7  # ns that a walk of the queue takes at most
+TASK = (1 << 32) - 1  # of a part's key
+NEXT = 8  # batches that a copy may show
 AHEAD = 512  # records that are looked at before one is taken
 
 
@@ -39,13 +44,21 @@ def _take_first(ahead: deque[Record], least: deque[int]) -> Iterator[tuple[Recor
         least.popleft()
 
 
+@dataclass(frozen=True)
+class Part:
+    """A part of a batch that has begun, and until when it can be ended: its tries are over then. Its key is its number before the task's."""
+
+    batch: Batch
+    end: int
+
+
 @dataclass(eq=False)
 class TracedScans(ScanEvents):
     """Emits events of observed batches; where none is observed, those of scans as their copies show them."""
 
     batches: deque[Batch] | None = None  # that haven't begun; None: functions weren't traced
     _asked: dict[int, Iterator[tuple[int, int]]] = field(default_factory=dict)  # by tasks that scan, what they are asked for
-    _held: dict[int, Batch] = field(default_factory=dict)  # batches that have begun, by tasks
+    _held: dict[int, Part] = field(default_factory=dict)  # parts of batches that have begun, by their keys
     _back: list[Page] = field(default_factory=list)  # pages put back since a copy was last compared
 
     def handle_scan(self, record: Record) -> None:
@@ -62,17 +75,18 @@ class TracedScans(ScanEvents):
             super().handle_scanned(record, observed)
             return
         self._asked.pop(record.task, None)
+        self.end_batch(record.task)
         self.match(record.queue)
 
     def match(self, queue: list[int] | None) -> None:
         """The same after what batches have taken that began during the walk, and with the places of pages that were put back since: beside
         them other pages have joined."""
         now, task, shown = self.now, self.task, {*(queue or ())}
-        while queue is not None and self.batches and self.batches[0].begin < self.now + WALK:
-            tried = [folio for folio in self.batches[0].tries if self.at.get(folio) in self.queue]
-            if not tried or not shown.isdisjoint(tried):
-                break
-            self.begin_batches(self.batches[0].begin)
+        for batch in [*islice(self.batches or (), NEXT)] if queue is not None else ():
+            tried = [folio for folio in batch.tries if self.at.get(folio) in self.queue]
+            if batch.asked < now + WALK and tried and shown.isdisjoint(tried) and self.batches:
+                self.batches.remove(batch)
+                self._begin_batch(batch)
         self.now, self.task = now, task
         if queue is not None and self._back and not self.scans:
             kernels = [page for page in map(self.at.get, queue) if page]
@@ -85,18 +99,18 @@ class TracedScans(ScanEvents):
     def begin_batches(self, now: int) -> None:
         """Emits what batches have taken that began until now."""
         while self.batches and self.batches[0].begin <= now:
-            batch = self.batches.popleft()
-            self.now, self.task = batch.begin, batch.task
-            self._begin_batch(batch)
+            self._begin_batch(self.batches.popleft())
 
     def _begin_batch(self, batch: Batch) -> None:
-        """Emits what a batch has taken: the oldest pages, and each page that it tried."""
+        """Emits what a batch has taken: the oldest pages, and each page that it tried. A page that is partly mapped is tried, unless another
+        task holds its lock."""
+        self.now, self.task = batch.begin, batch.task
+        for key in [key for key, part in self._held.items() if part.end <= batch.begin]:
+            self._end_part(key)
         _, count = next(self._asked.get(batch.task, iter(())), (0, BATCH))
         tried = [page for page in map(self.at.get, batch.tries) if page]
         for page in reversed(tried):
-            holder = next((task for task, scan in self.scans.items() if page in scan.taken), None)
-            if holder is not None:
-                self.end_batch(holder)  # it has put the page back, and its end is recorded later
+            self._free_from_others(page)
             if page not in self.queue:
                 self.emit_join(page, [page.folio])
             if page not in self.queue:
@@ -105,23 +119,67 @@ class TracedScans(ScanEvents):
         reach = max((at + 1 for at, page in enumerate(self.queue) if page in mine), default=0)
         oldest = self.queue[: max(count, reach)]
         left = [page for page in oldest if page not in mine][: max(len(oldest) - count, 0)]
-        for page in left:  # it has left the queue, and the record of its free comes
-            self._emit_leave(page, [])
-        pages = [page for page in oldest if page not in left]
+        for page in left:
+            if self._goes(page):  # it has left the queue, and the record of its free comes
+                self._emit_leave(page, [])
+            else:
+                self.omit(page, Omission.PART_SCANNED)
+        newer = {page for page in oldest[reach:] if page.is_partly_mapped}  # these have joined later
+        pages = [page for page in oldest if page in self.queue and page not in left and page not in newer]
         if pages:
-            start = Record(Kind.BATCH, batch.begin, batch.task, 0, (0,) * 9, None)
-            is_ordered = not self._back and not self.scans
-            batches = [(0, len(pages))] if is_ordered else []
-            self.scans[batch.task] = Scan(start, [*pages], [], batches, 0, self.changes, taken=self._take(batch.task, pages))
-            self._held[batch.task] = batch
+            self._divide(batch, pages)
+
+    def _free_from_others(self, page: Page) -> None:
+        """Ends a batch that holds a page which another has taken: it has put its pages back, and its end is recorded later. If it puts them
+        back singly, and this one later, a call has queued the page meanwhile."""
+        for key, scan in [*self.scans.items()]:
+            if page in scan.taken and self._held[key].batch.puts_singly:
+                self.omit(page, Omission.REQUEUED)
+                scan.taken.remove(page)
+                page.is_taken = False
+            elif page in scan.taken:
+                self._end_part(key)
+
+    def _goes(self, page: Page) -> bool:
+        """Returns whether calls that run, or the ends of its processes, take all mappings of a page away."""
+        gone = union_of(self._subpages_in_range(call, effect, page) for call in self.calls_reaching(page) for effect in list_removals(call))
+        return not page.used_subpages() & ~gone or self.is_ending(page)
+
+    def _divide(self, batch: Batch, pages: list[Page]) -> None:
+        """Emits that a batch takes pages, oldest first. Where it puts them back singly, others can take some before it ends: the newest are tried
+        first. So each run of pages whose tries are over before the same batch begins is a part, which is a batch of its own in the journal."""
+        cuts = [each.begin for each in self.batches or () if each.begin < batch.end and each.tries] if batch.puts_singly else []
+        ends = [*cuts, batch.end]
+        order, over, tried = {page: at for at, page in enumerate(pages)}, {}, batch.begin
+        for page in reversed(pages):  # one that isn't tried is passed by
+            tried = batch.tries.get(page.folio, (0, tried))[1]
+            over[page] = ends[bisect_left(ends, min(tried, batch.end))]
+        journal = self._order_by_journal(pages)
+        parts = [(end, [*part]) for end, part in groupby(journal, over.__getitem__)]
+        room = CALLERS - 2 - len(self.scans)
+        if len(parts) > room:
+            parts = [(batch.end, journal)] if room > 0 else []
+        for page in pages if not parts else ():
+            self.omit(page, Omission.OVERLAPPED)
+            self.dequeue(page)
+        is_ordered = len(parts) == 1 and not self._back and not self.scans
+        for number, (end, part) in enumerate(parts):
+            key = batch.task + (number << 32)
+            start = Record(Kind.BATCH, batch.begin, key, 0, (0,) * 9, None)
+            batches = [(0, len(part))] if is_ordered else []
+            self.scans[key] = Scan(start, sorted(part, key=order.__getitem__), [], batches, 0, self.changes, taken=self._take(key, part))
+            self._held[key] = Part(batch, end)
 
     def end_batch(self, task: int) -> None:
-        """Emits the tries and put-backs of a task's batch."""
-        batch, scan = self._held.pop(task, None), self.scans.pop(task, None)
-        if not batch or not scan:
-            return
+        """Emits the tries and put-backs of a task's batch that are left."""
+        for key in [key for key in self._held if key & TASK == task]:
+            self._end_part(key)
+
+    def _end_part(self, key: int) -> None:
+        """Emits the tries and put-backs of a part of a batch."""
+        batch, scan = self._held.pop(key).batch, self.scans.pop(key)
         self.emitted_until = max(self.emitted_until, min(batch.end, self.now))
-        self.tallies[Count.SCANS] += 1
+        self.tallies[Count.SCANS] += key == batch.task
         self._emit_frees(scan.pages, [])
         stays = [page for page in scan.pages if page and page.is_live and self._stays(page, batch)][::-1]
         order = [page for page in map(self.at.get, batch.tries) if page in stays]
@@ -129,9 +187,10 @@ class TracedScans(ScanEvents):
             self.tallies[Count.REVERSED] += 1
         for page in scan.taken:
             page.last_change = max(batch.end, self.now)
-        self._try_batch(task, [page for page in scan.taken if page.is_live], stays)
+        self._try_batch(key, [page for page in scan.taken if page.is_live], stays)
         self._back += stays
 
     def _stays(self, page: Page, batch: Batch) -> bool:
-        """Returns whether a batch puts a page back: it is partly mapped, and its split failed or wasn't tried."""
-        return bool(batch.tries.get(page.folio, 1)) and page.is_partly_mapped and not page.is_freed
+        """Returns whether a batch puts a page back: it is partly mapped, and its split failed, or wasn't observed and gave nothing back."""
+        answer, _ = batch.tries.get(page.folio, (not page.freed_frames, 0))
+        return bool(answer) and page.is_partly_mapped and not page.is_freed
