@@ -6,14 +6,6 @@
 #ifndef FUNCTIONS_BPF_H
 #define FUNCTIONS_BPF_H
 
-/* Whether a page is charged to the group; Linux 7 charges it to an obj_cgroup. */
-static __always_inline bool is_charged(struct folio *folio)
-{
-	__u64 charged = READ(folio->memcg_data) & CHARGED_TO;
-
-	return charged == settings.group || (__u64)READ(((struct obj_cgroup *)charged)->memcg) == settings.group;
-}
-
 /* Whether a scan is one of our queue. */
 static __always_inline bool is_own_scan(struct shrink_control *control)
 {

@@ -42,7 +42,7 @@ struct kernfs_node { void *priv; };
 struct cgroup_subsys_state { struct cgroup *cgroup; struct cgroup_subsys *ss; struct cgroup_subsys_state *parent; };
 struct cgroup { struct cgroup_subsys_state *subsys[1]; };
 struct css_set { struct cgroup_subsys_state *subsys[1]; };
-struct task_struct { int tgid; struct mm_struct *mm; struct css_set *cgroups; struct files_struct *files; };
+struct task_struct { int tgid; void *stack; struct mm_struct *mm; struct css_set *cgroups; struct files_struct *files; };
 
 /* files: from a descriptor of the caller to a control group, or to a page */
 struct xarray { void *xa_head; };

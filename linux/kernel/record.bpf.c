@@ -23,6 +23,7 @@ char LICENSE[] SEC("license") = "Dual MIT/GPL";
 enum { MMAP = 9, MPROTECT = 10, MUNMAP = 11, BRK = 12, MREMAP = 25, MADVISE = 28 };	/* x86-64 */
 enum { FIXED = 0x10, NOREPLACE = 0x100000, ERRORS = 4095, WRITTEN = 3 };
 enum { FRAME_END = 52 };
+enum { STACK = 1 << 14 };	/* bytes of a task's stack on x86-64 */
 
 /* calls */
 
@@ -205,30 +206,34 @@ static __always_inline __u64 block_of(__u64 page)
 	return page & -(LARGE * (__u64)bpf_core_type_size(struct page));
 }
 
+/* Clears the bits of an allocation's frames, as far as they are in the block of its first. Returns whether that block is tracked. */
+__noinline bool forget_frees(__u64 page, __u32 order)
+{
+	__u64 block = block_of(page), first = (page - block) / bpf_core_type_size(struct page) % LARGE;
+	struct thp_seen *seen = bpf_map_lookup_elem(&tracked, &block);
+	__u64 bits = order < 6 ? ((1ull << (1 << order)) - 1) << first % 64 : ~0ull;
+
+	for (__u64 i = 0; seen && i < LARGE / 64; i++)
+		if ((i == first / 64 || (i > first / 64 && i < (first + (1 << order)) / 64)) && seen->bits[i] & bits)
+			__sync_fetch_and_and(&seen->bits[i], ~bits);
+	return seen;
+}
+
 /* Frees in the block of a page are recorded from now on, one of each frame; those of other pages in it that were recorded stay so. */
 static __always_inline void track(__u64 page, __u32 order)
 {
-	__u64 block = block_of(page), first = (page - block) / bpf_core_type_size(struct page) % LARGE;
-	struct thp_seen *seen = bpf_map_lookup_elem(&tracked, &block), none = {};
-	__u64 bits = order < 6 ? ((1ull << (1 << order)) - 1) << first % 64 : ~0ull;
+	__u64 block = block_of(page);
+	struct thp_seen none = {};
 
-	if (!seen && bpf_map_update_elem(&tracked, &block, &none, BPF_ANY))
+	if (!forget_frees(page, order) && bpf_map_update_elem(&tracked, &block, &none, BPF_ANY))
 		lose();
-	for (__u64 i = 0; seen && i < LARGE / 64; i++)
-		if (i == first / 64 || (i > first / 64 && i < (first + (1 << order)) / 64))
-			__sync_fetch_and_and(&seen->bits[i], ~bits);
 }
 
 /* Counts a page that is allocated in a group below the recorded one. */
 static __always_inline int count_inner(struct task_struct *task)
 {
-	struct cgroup_subsys_state *css = (void *)group_of(task);
-
-	for (int i = 0; i < INNER_LEVELS && css; i++) {
-		css = READ(css->parent);
-		if ((__u64)css == settings.group)
-			__sync_fetch_and_add(&counters.inner_pages, 1);
-	}
+	if (is_below(group_of(task)))
+		__sync_fetch_and_add(&counters.inner_pages, 1);
 	return 0;
 }
 
@@ -262,6 +267,10 @@ static __always_inline int note_alloc(int copy, __u64 folio, unsigned int order,
 	struct thp_task *state;
 	__u64 mm;
 
+	if (running_scans)
+		forget_frees(folio, order);
+	if (running_scans && order > PMD_ORDER)	/* two blocks */
+		forget_frees(folio + LARGE * (__u64)bpf_core_type_size(struct page), PMD_ORDER);
 	if (!folio || order == 1)
 		return 0;
 	if (!order)
@@ -293,19 +302,29 @@ static __always_inline int note_alloc(int copy, __u64 folio, unsigned int order,
 
 /*
  * mm_page_alloc: huge pages of the group's tasks, and of kernel threads, which may be khugepaged's (ALLOC); base pages that can
- * be copies (COPY). Huge pages have __GFP_NOMEMALLOC, and all except the huge zero page are movable. raw_tp: it computes with
- * the address of the page.
+ * be copies (COPY). Huge pages have __GFP_NOMEMALLOC, and all except the huge zero page are movable. While a scan runs, the frees of all
+ * that is allocated are recorded again. raw_tp: it computes with the address of the page.
  */
 IN_COPIES("raw_tp/mm_page_alloc", on_alloc, note_alloc(copy, (__u64)page, order, flags),
 	  struct page *page, unsigned int order, __u32 flags)
 
+/* Whether the task itself scans our queue: an interrupt in its name has another stack. A tracepoint's arguments are on the stack. */
+static __always_inline bool is_scanning(void *arguments)
+{
+	struct task_struct *task = bpf_get_current_task_btf();
+	struct thp_task *state = running_scans ? bpf_task_storage_get(&tasks, task, 0, 0) : 0;
+
+	return state && state->scans && read_pointer((__u64)&arguments) - (__u64)task->stack < STACK;
+}
+
 /*
  * Sends the free of a page in a block where a huge page of ours was made. A frame that is freed again was another's meanwhile, and
- * so is a block once it was freed whole.
+ * so is a block once it was freed whole. But while a scan runs allocations clear bits, so a frame that it frees with its bit set is
+ * free already. The first copy alone sends that: for the others, the first may have set the bit.
  */
-static __always_inline int send_free(__u64 page, unsigned int order)
+static __always_inline int send_free(int copy, void *arguments, __u64 page, unsigned int order)
 {
-	__u64 block = block_of(page), place, bit;
+	__u64 block = block_of(page), place, bit, again = 0;
 	struct thp_seen *seen = bpf_map_lookup_elem(&tracked, &block);
 
 	if (!seen)
@@ -313,17 +332,18 @@ static __always_inline int send_free(__u64 page, unsigned int order)
 	if (order < PMD_ORDER) {
 		place = (page - block) / bpf_core_type_size(struct page) % LARGE;
 		bit = 1ull << place % 64;
-		if (__sync_fetch_and_or(&seen->bits[place / 64], bit) & bit)
+		again = (__sync_fetch_and_or(&seen->bits[place / 64], bit) & bit) != 0;
+		if (again && (copy || order || !is_scanning(arguments)))
 			return 0;
 	} else if (bpf_map_delete_elem(&tracked, &block)) {
 		return 0;
 	}
-	return send(FREE, bpf_get_current_task_btf(), VALUES(page, order));
+	return send(FREE, bpf_get_current_task_btf(), VALUES(page, order, again));
 }
 
 /* mm_page_free: pages in blocks where a huge page of ours was made, by whomever they are freed (FREE). raw_tp: it computes with
  * the address of the page. */
-IN_COPIES("raw_tp/mm_page_free", on_free, send_free((__u64)page, order), struct page *page, unsigned int order)
+IN_COPIES("raw_tp/mm_page_free", on_free, send_free(copy, ctx, (__u64)page, order), struct page *page, unsigned int order)
 
 /* collapses and migrations */
 
@@ -430,6 +450,7 @@ static __always_inline int begin_scan(int copy, struct shrinker *shrinker, struc
 	state = state_of(task);
 	if (!state || (copy && state->scans))
 		return 0;
+	__sync_fetch_and_add(&running_scans, !state->scans);
 	state->scans = true;
 	return send_with_queue(OF_SCAN + copy, SCAN, task, VALUES(total, freeable));
 }
@@ -448,6 +469,7 @@ static __always_inline int end_scan(int copy, struct shrinker *shrinker, int fre
 	state = bpf_task_storage_get(&tasks, task, 0, 0);
 	if (!state || !state->scans)
 		return 0;
+	__sync_fetch_and_sub(&running_scans, 1);
 	state->scans = false;
 	return send_with_queue(OF_SCANNED + copy, SCANNED, task, VALUES(freed, total));
 }

@@ -8,6 +8,7 @@ const volatile __u32 nomemalloc, movable;	/* ___GFP_*: of an enumeration without
 const volatile bool has_collapse_order;		/* an argument of a tracepoint, since Linux 7 */
 
 struct thp_counters counters;
+__u32 running_scans;	/* of our queue */
 
 enum { CHARGED_TO = ~7, SPACES = 8192, HOMES = 65536, TRACKED = 65536, BLOCKS = 4096, RANGE = 32, INNER_LEVELS = 8, TRIES = 3, LARGE = 512 };
 
@@ -112,6 +113,26 @@ static __always_inline __u64 group_of(struct task_struct *task)
 	return (__u64)task->cgroups->subsys[bpf_core_enum_value(enum cgroup_subsys_id, memory_cgrp_id)];
 }
 
+/* Whether a group is the recorded one, or below it. */
+static __always_inline bool is_below(__u64 group)
+{
+	for (int i = 0; i < INNER_LEVELS && group && group != settings.group; i++)
+		group = (__u64)READ(((struct cgroup_subsys_state *)group)->parent);
+	return group == settings.group;
+}
+
+/* The group that a page is charged to, by its memcg_data; Linux 7 charges it to an obj_cgroup. */
+static __always_inline __u64 charged_group(__u64 charge)
+{
+	charge &= CHARGED_TO;
+	return charge == settings.group ? charge : (__u64)READ(((struct obj_cgroup *)charge)->memcg);
+}
+
+static __always_inline bool is_charged(struct folio *folio)
+{
+	return charged_group(READ(folio->memcg_data)) == settings.group;
+}
+
 /* What is known of a task. Where there is no room for it, what it does isn't recorded and counts as lost. */
 static __always_inline struct thp_task *state_of(struct task_struct *task)
 {
@@ -198,19 +219,42 @@ static __always_inline int send(enum kind kind, struct task_struct *task, const 
 
 extern void *bpf_rdonly_cast(const void *address, __u32 type) __ksym __weak;	/* Linux 6.2 */
 
-struct thp_walk { struct thp_record *record; __u64 head, at; __u32 count; };
+/* A walk of the queue; `charge`: the memcg_data of the last page that is our group's. */
+struct thp_walk { struct thp_record *record; __u64 head, at, charge; __u32 count, foreign; };
 
+/*
+ * Whether a page of the queue is another group's, by its memcg_data. Linux 7 moves the pages of a group that is removed to its parent's
+ * queue before their charge.
+ */
+__noinline bool is_foreign(__u64 charge)
+{
+	__u64 group = charged_group(charge);
+
+	return has_group_queue() ? group != settings.group : !is_below(group);
+}
+
+/* Reads a field: by a load, instead of a call of a helper for each page, where the kernel allows that. */
+#define LOAD(type, at, field) (bpf_rdonly_cast								\
+	? ((type *)bpf_rdonly_cast(at, bpf_core_type_id_kernel(type)))->field : READ((at)->field))
+
+/* Reads the charge before the link: a page that leaves the queue before its charge doesn't lead to the head. Another group's is read again
+ * after it, since a page can come back. A walk ends where it meets the head of a scan's own list, on a stack, below all struct pages. */
 static long step(__u32 index, struct thp_walk *walk)
 {
+	struct folio *folio = (void *)(walk->at - link_offset());
 	struct list_head *link = (void *)walk->at;
+	__u64 charge;
 
-	if (walk->at == walk->head || index >= QUEUE_MOST)
+	if (walk->at == walk->head || index >= QUEUE_MOST || (__u64)folio < settings.first_page)
 		return 1;
-	walk->record->folios[index] = walk->at - link_offset();
-	if (bpf_rdonly_cast)	/* a load instead of a call of a helper for each page */
-		walk->at = (__u64)((struct list_head *)bpf_rdonly_cast(link, bpf_core_type_id_kernel(struct list_head)))->next;
-	else
-		walk->at = (__u64)READ(link->next);
+	walk->record->folios[index] = (__u64)folio;
+	charge = LOAD(struct folio, folio, memcg_data);
+	barrier();
+	walk->at = (__u64)LOAD(struct list_head, link, next);
+	if (charge != walk->charge && !is_foreign(charge))
+		walk->charge = charge;
+	else if (charge != walk->charge && !walk->foreign && is_foreign(READ(folio->memcg_data)))
+		walk->foreign = index + 1;
 	walk->count = index + 1;
 	return 0;
 }
@@ -219,7 +263,7 @@ static long step(__u32 index, struct thp_walk *walk)
 static __always_inline int add_queue(struct thp_record *record)
 {
 	__u32 numa_node = settings.numa_node < 0 ? 0 : settings.numa_node;
-	struct thp_walk walk = { .record = record };
+	struct thp_walk walk = { .record = record, .charge = settings.group };
 	__u64 count = QUEUE_MOST + 1, size;
 
 	walk.head = find_queue(settings.queue_lists, settings.group, false, numa_node, 0);
@@ -227,12 +271,12 @@ static __always_inline int add_queue(struct thp_record *record)
 		count = 0;
 	for (int i = 0; i < TRIES && count > QUEUE_MOST; i++) {
 		walk.at = (__u64)READ(((struct list_head *)walk.head)->next);
-		walk.count = 0;
+		walk.count = walk.foreign = 0;
 		bpf_loop(QUEUE_MOST + 1, step, &walk, 0);
 		if (walk.at == walk.head)
 			count = walk.count;
 	}
-	record->count = count;
+	record->count = count | (__u64)walk.foreign << 32;
 	size = __builtin_offsetof(struct thp_record, folios) + (count > QUEUE_MOST ? 0 : 8 * count);
 	for (int i = 0; i < TRIES; i++)
 		if (!bpf_ringbuf_output(&ring, record, size, 0))

@@ -15,7 +15,8 @@ enum how { IN_FAULT = 1, IN_NONE = 2 };
 struct thp_record {
 	unsigned long long kind, time, task, space, values[9];
 	unsigned long long space_end;	/* 0; linux/record/store.py links records here .. */
-	unsigned long long count;	/* pages of the queue; more than QUEUE_MOST: its walk didn't end where it began */
+	unsigned long long count;	/* low half: pages of the queue; more than QUEUE_MOST: its walk didn't end where it began;
+					   high half: the place of the first that is another group's, from 1; 0: none is */
 	unsigned long long link;	/* .. and here */
 	unsigned long long folios[QUEUE_MOST];
 };

@@ -35,7 +35,7 @@ class Kind(enum.IntEnum):
     EXIT = 1  # it ends (number, arguments, answer, and of the page at the first one the folio and map counts)
     FAULT = 2  # a page fault (address, error code); only a task's first one after an ALLOC or a COPY of its own
     ALLOC = 3  # a huge page is allocated (folio, order, how, the fault's address, its error code)
-    FREE = 4  # a page is freed in a block where a huge page was made (folio, order; 1: a frame again, by a scan, with no ALLOC between)
+    FREE = 4  # a page is freed in a block where a huge page was made (folio, order; 1: again by a scan, not allocated between)
     FORK = 5  # a process or thread begins (parent's mm, child's mm, child's tgid)
     EXIT_MMAP = 6  # an address space has ended (mm)
     SCAN = 7  # the shrinker begins on the queue (how many it may scan, how many are freeable)
