@@ -82,8 +82,9 @@ class TracedScans(ScanEvents):
         """The same after what batches have taken that began during the walk, and with the places of pages that were put back since: beside
         them other pages have joined."""
         now, task, shown = self.now, self.task, {*(queue or ())}
+        members = {*self.queue} - {*self.joining.values()}
         for batch in [*islice(self.batches or (), NEXT)] if queue is not None else ():
-            tried = [folio for folio in batch.tries if self.at.get(folio) in self.queue]
+            tried = [folio for folio in batch.tries if self.at.get(folio) in members]
             if batch.asked < now + WALK and tried and shown.isdisjoint(tried) and self.batches:
                 self.batches.remove(batch)
                 self._begin_batch(batch)
@@ -116,8 +117,9 @@ class TracedScans(ScanEvents):
             if page not in self.queue:
                 self.omit(page, Omission.UNKNOWN_JOIN)
         mine = {*tried}
-        reach = max((at + 1 for at, page in enumerate(self.queue) if page in mine), default=0)
-        oldest = self.queue[: max(count, reach)]
+        queue = [page for page in self.queue if page in mine or page not in self.joining.values()]
+        reach = max((at + 1 for at, page in enumerate(queue) if page in mine), default=0)
+        oldest = queue[: max(count, reach)]
         left = [page for page in oldest if page not in mine][: max(len(oldest) - count, 0)]
         for page in left:
             if self._goes(page):  # it has left the queue, and the record of its free comes

@@ -14,8 +14,8 @@ class ObservedRecords(WrittenRecords):
     def queued(self, task: int, _: Queue, number: int, ago: int = 1) -> None:
         self.add(Kind.QUEUED, [folio_of(number), len(self.records) - ago, 0, JOINED, 1], task=task)
 
-    def tried(self, task: int, _: Queue, number: int, failed: int = 0) -> None:
-        self.add(Kind.TRIED, [folio_of(number), 0, -11 * failed & WORD, 0, 1], task=task)
+    def tried(self, task: int, _: Queue, number: int, failed: int = 0, began: int = 1) -> None:
+        self.add(Kind.TRIED, [folio_of(number), 0, -11 * failed & WORD, 3, began], task=task)
 
     def batch(self, task: int, _: Queue, began: int = 1) -> None:
         self.add(Kind.BATCH, [0, began], task=task)
@@ -38,7 +38,7 @@ class ObservedTest(JournalCase):
             ("a join during a try", f"{one}; {split.replace('; d', '; queued 0; d', 1)}; free 0 8 504; drop 0 8 504 > -", 2, []),
             ("tries in reverse (E)", f"{two}; d:begin > 0 1; d:tried 1 1; d:tried 0 1; d:batch; d:end > 1 0", 4, []),
             ("order", f"{three}; d:begin > 0 1 2; d:tried 1 1; d:tried 2 1; d:tried 0 1; d:batch; d:end > 0 2 1", 3, ["queue's"] * 3),
-            ("two scans", f"{two}; d:begin > 0 1; d:tried 1 1; d:batch; d:tried 0 1; d:batch 2; d:end > 1 0", 3, ["another scan tried it"]),
+            ("two scans", f"{two}; d:begin > 0 1; d:tried 1 1; d:batch; d:tried 0 1 2; d:batch 2; d:end > 1 0", 3, ["another scan tried it"]),
         ]
         for what, records, observed, wanted in rows:
             with self.subTest(what):
