@@ -107,7 +107,7 @@ class Observations:
                 joins.popleft()  # a call queued it while it was tried (Linux 7); it is split, or back already
         elif "freed" in rest and any(each.end < time and not each.failed for each in (*joins, *tries)):
             return "it was queued or split before"
-        if found and word != "split":  # the place of a split among joins doesn't matter
+        if found and word != "split" and (self._puts_at_once or not found.is_try):  # the place of a split among joins doesn't matter
             if found.end < self._latest[0]:
                 return f"it was before the event of line {self._latest[1]}"
             self._latest = max(self._latest, (min(found.begin, time), number))

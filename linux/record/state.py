@@ -68,6 +68,7 @@ class Page:
     has_joined: bool = False  # a copy of the queue showed it before its task's next record
     is_perhaps_taken: bool = False  # it joined at its fault while a scan ran, which took it then or not
     missed: int = 0  # when a copy of the queue first lacked it
+    entered: int = 0  # when it joined the queue, or was put back singly
     last_change: int = 0  # when the last call that reached it was recorded
     join: JournalLine | None = None  # the event by which it joined the queue
 
@@ -235,6 +236,7 @@ class State:
     def enqueue(self, page: Page) -> None:
         """Adds a page to the queue, by the event emitted last."""
         self.changes += 1
+        page.entered = self.now
         self.queue.append(page)
         self.journal_queue.append(page)
         page.join = self.lines.latest[-1] if self.lines.latest else None

@@ -79,16 +79,13 @@ class TracedScans(ScanEvents):
         self.match(record.queue)
 
     def match(self, queue: list[int] | None) -> None:
-        """The same after what batches have taken that began during the walk, and with the places of pages that were put back since: beside
-        them other pages have joined."""
-        now, task, shown = self.now, self.task, {*(queue or ())}
+        """The same with the places of pages that were put back since: beside them other pages have joined. A copy that lacks what a batch takes
+        only later in the journal shows nothing."""
         members = {*self.queue} - {*self.joining.values()}
-        for batch in [*islice(self.batches or (), NEXT)] if queue is not None else ():
-            tried = [folio for folio in batch.tries if self.at.get(folio) in members]
-            if batch.asked < now + WALK and tried and shown.isdisjoint(tried) and self.batches:
-                self.batches.remove(batch)
-                self._begin_batch(batch)
-        self.now, self.task = now, task
+        for batch in islice(self.batches or (), NEXT) if queue is not None else ():
+            tried = {folio for folio in batch.tries if self.at.get(folio) in members}
+            if batch.asked < self.now + WALK and tried and tried.isdisjoint(queue or ()):
+                return
         if queue is not None and self._back and not self.scans:
             kernels = [page for page in map(self.at.get, queue) if page]
             back, self._back = {*self._back} & {*self.queue}, []
@@ -191,6 +188,11 @@ class TracedScans(ScanEvents):
             page.last_change = max(batch.end, self.now)
         self._try_batch(key, [page for page in scan.taken if page.is_live], stays)
         self._back += stays
+        for page in stays if batch.puts_singly else ():  # others may have come between
+            page.entered = batch.tries.get(page.folio, (1, batch.begin))[1]
+            self.queue.remove(page)
+            later = len(self.queue) - next((at for at, each in enumerate(reversed(self.queue)) if each.entered <= page.entered), len(self.queue))
+            self.queue.insert(later, page)
 
     def _stays(self, page: Page, batch: Batch) -> bool:
         """Returns whether a batch puts a page back: it is partly mapped, and its split failed, or wasn't observed and gave nothing back."""
