@@ -29,7 +29,7 @@
 #               if this machine can compare nothing)
 # make linux-vm: the same on Debian's kernels in virtual machines, a recording and known differences (needs qemu-system-x86; without
 #               KVM at most 40 minutes)
-# make linux-programs: recordings of a hundred programs of Debian under memory pressure (root; about 20 minutes; linux/tests/programs/debian.txt
+# make linux-programs: recordings of about 140 programs of Debian under memory pressure (root; about 30 minutes; linux/tests/programs/debian.txt
 #               names their packages)
 # make root-tests: attacks on the tools that run as root, and what these leave after any end (needs root; about 10 minutes)
 # make bench:   times on large scripts, beside plain Rust, and of single calls (docs/PERFORMANCE.md has the figures)
