@@ -91,11 +91,12 @@ class JournalBuilder(TracedScans):
         self.pending[record.task, kind] = Record(kind, record.time, record.task, space, values, None)
 
     def handle_enter(self, record: Record) -> None:
-        """A system call runs from here on. The end of the task's last call wasn't recorded if that runs, too: it isn't known what it did."""
+        """A system call runs from here on. If the task's last one still does, its end wasn't recorded, and it isn't known what it did."""
         missed = self.pending.get((record.task, Kind.ENTER))
-        for effect in list_effects(missed) if missed else ():
-            for page in self.pages_between(missed.space, effect.start, effect.end):
-                self.omit(page, Omission.MISSED_END)
+        if missed:
+            for effect in list_effects(missed):
+                for page in self.pages_between(missed.space, effect.start, effect.end):
+                    self.omit(page, Omission.MISSED_END)
         self.pending[record.task, Kind.ENTER] = record
 
     def handle_exit(self, record: Record) -> None:

@@ -1,5 +1,5 @@
-"""What the records prove of the kernel by themselves, whatever the journal infers. A walk of the queue takes no lock and a while; a page that
-is freed or made meanwhile may be met at any place.
+"""What the records prove of the kernel by themselves, whatever the journal infers. A walk of the queue takes no lock and a while; a page
+that is freed or made meanwhile may be met at any place.
 
 The order of two copies proves something where each scan that ran since the first was begun had taken its pages before: it takes them in one
 step, before it frees a frame of one of them. Then the pages that both copies show have stayed in their order, and all others follow them.
@@ -61,9 +61,10 @@ class QueueLaws:
         elif kind is Kind.SCAN:
             self._running[record.task] = RunningScan({*(record.queue or ())}, len([*batches_of(*record.values[:2])]) < 2)
         elif kind is Kind.SCANNED:
-            scan = self._running.pop(record.task, None)
+            scan = self._running[record.task] if record.task in self._running else RunningScan(frozenset(), False)
+            self._running.pop(record.task, None)
             self._ended = max(self._ended, time)
-            self._settled = max(self._settled, scan.taken if scan and scan.takes_once and scan.taken else time)
+            self._settled = max(self._settled, scan.taken if scan.takes_once and scan.taken else time)
 
     def _note(self, record: Record, page: int) -> None:
         """Notes that a page or a frame was freed, or a page made."""

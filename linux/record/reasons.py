@@ -109,7 +109,7 @@ class Count(Reason):
     WITHOUT_FAULT = "allocations without a fault, not followed", Origin.LIMIT
 
 
-PROVED = (Count.MET_TWICE, Count.QUEUED_FREE, Count.OVERTAKEN, Count.FOREIGN, Count.FREED_TWICE)  # by records alone: any makes a recording differ
+PROVED = (Count.MET_TWICE, Count.QUEUED_FREE, Count.OVERTAKEN, Count.FOREIGN, Count.FREED_TWICE)  # by records alone
 
 
 def describe(reason: Reason) -> str:

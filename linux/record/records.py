@@ -106,7 +106,8 @@ def parse_record(raw: bytes, place: int = 0) -> Record:
         foreign = folios[mark - 1] if 0 < mark <= count else 0
     elif kind is Kind.CONTENTS:
         contents = int.from_bytes(raw[at : at + SET], "little"), int.from_bytes(raw[at + SET : at + 2 * SET], "little")
-    return Record(kind, words[1], words[2] & _WORD, words[3], words[4:13], queue, contents, False, words[13], words[15], twice=twice, foreign=foreign)
+    links = words[13], words[15]
+    return Record(kind, words[1], words[2] & _WORD, words[3], words[4:13], queue, contents, False, *links, twice=twice, foreign=foreign)
 
 
 @dataclass(eq=False)
@@ -211,7 +212,7 @@ class _Batches:
             batch = self._running.setdefault(task, Batch(task, scan, begin, scan, {}, not linked & 1))
             batch.tries[folio] = result, record.time
         elif kind is Kind.BATCH or (kind is Kind.SCANNED and task in self._running):  # the end of the batch wasn't observed
-            batch = self._running.pop(task, None) or Batch(task, begin, begin, begin, {}, False)
+            batch = self._running.pop(task) if task in self._running else Batch(task, begin, begin, begin, {}, False)
             batch.end = record.time
             self.found.append(batch)
 

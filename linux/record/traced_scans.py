@@ -1,12 +1,12 @@
-"""Scans whose batches function tracing has observed: what they took, tried and split, and when. The queue is known at each time then, so that
-scans that overlap are in their order."""
+"""Scans whose batches function tracing has observed: what they took, tried and split, and when. The queue is known at each time then, so
+that scans that overlap are in their order."""
 
 from __future__ import annotations
 
 from bisect import bisect_left
 from collections import deque
 from dataclasses import dataclass, field
-from itertools import groupby, islice
+from itertools import groupby, islice, takewhile
 from typing import Iterable, Iterator
 
 from .calls import list_removals
@@ -22,8 +22,8 @@ AHEAD = 512  # records that are looked at before one is taken
 
 
 def with_bounds(records: Iterable[Record]) -> Iterator[tuple[Record, int]]:
-    """Yields records, each with a time (ns) at or before which it had its place in the ring: its own time is later where a processor was taken
-    away meanwhile, but not than those of the records behind it."""
+    """Yields records, each with a time (ns) by which it had its place in the ring: its own time is later where a processor was taken away
+    meanwhile, but no record behind it has an earlier place."""
     ahead: deque[Record] = deque()
     least: deque[int] = deque()  # of the times ahead, those that no later record's time is below
     for record in records:
@@ -46,7 +46,7 @@ def _take_first(ahead: deque[Record], least: deque[int]) -> Iterator[tuple[Recor
 
 @dataclass(frozen=True)
 class Part:
-    """A part of a batch that has begun, and until when it can be ended: its tries are over then. Its key is its number before the task's."""
+    """A part of a batch that has begun, and when its tries are over. Its key is its number before the task's."""
 
     batch: Batch
     end: int
@@ -79,8 +79,8 @@ class TracedScans(ScanEvents):
         self.match(record.queue)
 
     def match(self, queue: list[int] | None) -> None:
-        """The same with the places of pages that were put back since: beside them other pages have joined. A copy that lacks what a batch takes
-        only later in the journal shows nothing."""
+        """The same with the places of pages that were put back since: beside them other pages have joined. A copy that lacks what a batch
+        takes only later in the journal shows nothing."""
         members = {*self.queue} - {*self.joining.values()}
         for batch in islice(self.batches or (), NEXT) if queue is not None else ():
             tried = {folio for folio in batch.tries if self.at.get(folio) in members}
@@ -100,8 +100,8 @@ class TracedScans(ScanEvents):
             self._begin_batch(self.batches.popleft())
 
     def _begin_batch(self, batch: Batch) -> None:
-        """Emits what a batch has taken: the oldest pages, and each page that it tried. A page that is partly mapped is tried, unless another
-        task holds its lock."""
+        """Emits what a batch has taken: the oldest pages, and each page that it tried. A partly mapped page is tried, unless another task
+        holds its lock."""
         self.now, self.task = batch.begin, batch.task
         for key in [key for key, part in self._held.items() if part.end <= batch.begin]:
             self._end_part(key)
@@ -113,6 +113,8 @@ class TracedScans(ScanEvents):
                 self.emit_join(page, [page.folio])
             if page not in self.queue:
                 self.omit(page, Omission.UNKNOWN_JOIN)
+        if self.scans and batch.puts_singly:
+            self.begin_doubt(Doubt.OVERLAP)
         mine = {*tried}
         queue = [page for page in self.queue if page in mine or page not in self.joining.values()]
         reach = max((at + 1 for at, page in enumerate(queue) if page in mine), default=0)
@@ -145,11 +147,11 @@ class TracedScans(ScanEvents):
         return not page.used_subpages() & ~gone or self.is_ending(page)
 
     def _divide(self, batch: Batch, pages: list[Page]) -> None:
-        """Emits that a batch takes pages, oldest first. Where it puts them back singly, others can take some before it ends: the newest are tried
-        first. So each run of pages whose tries are over before the same batch begins is a part, which is a batch of its own in the journal."""
-        cuts = [each.begin for each in self.batches or () if each.begin < batch.end and each.tries] if batch.puts_singly else []
-        ends = [*cuts, batch.end]
-        order, over, tried = {page: at for at, page in enumerate(pages)}, {}, batch.begin
+        """Emits that a batch takes pages, oldest first. Where it puts them back singly, others can take some before it ends: the newest are
+        tried first. So each run of pages whose tries are over before the same batch begins is a part: a batch of its own in the journal."""
+        next_ones = takewhile(lambda each: each.begin < batch.end, (self.batches or ()) if batch.puts_singly else ())
+        ends = [*(each.begin for each in next_ones if each.tries), batch.end]
+        over, tried = {}, batch.begin
         for page in reversed(pages):  # one that isn't tried is passed by
             tried = batch.tries.get(page.folio, (0, tried))[1]
             over[page] = ends[bisect_left(ends, min(tried, batch.end))]
@@ -165,8 +167,8 @@ class TracedScans(ScanEvents):
         for number, (end, part) in enumerate(parts):
             key = batch.task + (number << 32)
             start = Record(Kind.BATCH, batch.begin, key, 0, (0,) * 9, None)
-            batches = [(0, len(part))] if is_ordered else []
-            self.scans[key] = Scan(start, sorted(part, key=order.__getitem__), [], batches, 0, self.changes, taken=self._take(key, part))
+            batches, kernels = [(0, len(part))] if is_ordered else [], [page for page in pages if page in part]
+            self.scans[key] = Scan(start, [*kernels], [], batches, 0, self.changes, taken=self._take(key, part))
             self._held[key] = Part(batch, end)
 
     def end_batch(self, task: int) -> None:
@@ -191,8 +193,8 @@ class TracedScans(ScanEvents):
         for page in stays if batch.puts_singly else ():  # others may have come between
             page.entered = batch.tries.get(page.folio, (1, batch.begin))[1]
             self.queue.remove(page)
-            later = len(self.queue) - next((at for at, each in enumerate(reversed(self.queue)) if each.entered <= page.entered), len(self.queue))
-            self.queue.insert(later, page)
+            later = [*takewhile(lambda each: each.entered > page.entered, reversed(self.queue))]
+            self.queue.insert(len(self.queue) - len(later), page)
 
     def _stays(self, page: Page, batch: Batch) -> bool:
         """Returns whether a batch puts a page back: it is partly mapped, and its split failed, or wasn't observed and gave nothing back."""

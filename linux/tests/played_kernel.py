@@ -41,7 +41,7 @@ class PlayedPage:
 
 
 class PlayedKernel:
-    """Threads of one process, and scans. `records` are those that a recording of them has; `wrong`: how often it did wrong. A `bug` is one of:
+    """Threads of one process, and scans. `records` are those that a recording has; `wrong`: how often it did wrong. A `bug` is one of:
 
     first       a page joins at the queue's head
     head        a scan puts pages back there

@@ -16,7 +16,7 @@ from ..common.checker import Checker, JournalChecker, find_checker
 from ..common.errors import DIFFERS, DONE, INCONCLUSIVE, SKIPPED, InputFault, Unavailable
 from ..common.journal import journal_of, journal_text
 from ..common.program import Program
-from ..record.reasons import Doubt
+from ..record.reasons import Doubt, Reason
 from ..record.recorder import Recording
 from ..record.report import JournalFile, Report
 from ..record.scans import BATCH
@@ -36,7 +36,7 @@ class VerdictsTest(JournalCase):
         self.by: JournalChecker = Program(PLAIN)
 
     def report(
-        self, records: WrittenRecords, doubts: dict[Doubt, int] | None = None, required: float = 95, strict: bool = False
+        self, records: WrittenRecords, doubts: dict[Reason, int] | None = None, required: float = 95, strict: bool = False
     ) -> tuple[int, str]:
         """Returns the status and what is printed of records."""
         builder, report = self.build(store_records(records.records)), Report(self.by, required, strict)

@@ -2,6 +2,7 @@
 
 from __future__ import annotations
 
+from ..record.journal_builder import JournalBuilder
 from ..record.reasons import Count
 from ..record.records import JOINED, Kind
 from ..record.report import compare_with_observed
@@ -38,7 +39,8 @@ class ObservedTest(JournalCase):
             ("a join during a try", f"{one}; {split.replace('; d', '; queued 0; d', 1)}; free 0 8 504; drop 0 8 504 > -", 2, []),
             ("tries in reverse (E)", f"{two}; d:begin > 0 1; d:tried 1 1; d:tried 0 1; d:batch; d:end > 1 0", 4, []),
             ("order", f"{three}; d:begin > 0 1 2; d:tried 1 1; d:tried 2 1; d:tried 0 1; d:batch; d:end > 0 2 1", 3, ["queue's"] * 3),
-            ("two scans", f"{two}; d:begin > 0 1; d:tried 1 1; d:batch; d:tried 0 1 2; d:batch 2; d:end > 1 0", 3, ["another scan tried it"]),
+            ("two scans", f"{two}; d:begin > 0 1; d:tried 1 1; d:batch; d:tried 0 1 2; d:batch 2; d:end > 1 0", 3,
+             ["another scan tried it"]),
         ]
         for what, records, observed, wanted in rows:
             with self.subTest(what):
@@ -47,6 +49,17 @@ class ObservedTest(JournalCase):
                 self.assertEqual((builder.tallies[Count.OBSERVED], len(found)), (observed, len(wanted)), found)
                 self.assertTrue(all(map(str.endswith, found, wanted)), found)
 
-    def test_a_recording_of_a_kernel(self) -> None:
-        builder = self.build(read_recording("traced_6_12"), 100)
-        self.assertEqual((compare_with_observed([builder]), builder.tallies[Count.OBSERVED]), ([], 110))
+    def test_recordings_of_kernels(self) -> None:
+        """Of each: the order of its pages, the threshold, and how many events are observed as inferred. In the second scans of many threads
+        overlap; in the third they also put their pages back singly."""
+        rows = ("traced_6_12", 9, 100, 110), ("overlapping_6_12", 4, None, 568), ("overlapping_7_3", 4, None, 646)
+        for name, order, threshold, observed in rows:
+            with self.subTest(name):
+                store = read_recording(name)
+                builder = JournalBuilder(order, threshold)
+                self.addCleanup(builder.lines.close)
+                builder.add_records(store.records(), store.batches)
+                contradictions = compare_with_observed([builder])
+                self.check_legal(builder)
+                self.assertEqual((contradictions, builder.tallies[Count.OBSERVED]), ([], observed))
+                self.assertGreater(100 * (builder.pages - builder.left_out), 95 * builder.pages)

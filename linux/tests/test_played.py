@@ -3,6 +3,7 @@ random order."""
 
 from __future__ import annotations
 
+import itertools
 from typing import Sequence
 
 from ..common.journal import journal_text
@@ -11,8 +12,12 @@ from ..record.reasons import Count
 from .played_kernel import PlayedKernel, PlayedPage
 from .written_records import PLAIN, JournalCase, WrittenRecords, store_records, words_of
 
-THRESHOLD, THREADS, STEPS = 100, 4, 400
-BUGS = (("twice", 1, Count.MET_TWICE), ("taken", 1, Count.QUEUED_FREE))
+THRESHOLD, THREADS, STEPS, SEED = 100, 4, 400, 3
+# of a wrong kernel: its bug, and what proves it
+BUGS = {"first": Count.OVERTAKEN, "head": Count.OVERTAKEN, "twice": Count.MET_TWICE, "foreign": Count.FOREIGN, "double": Count.FREED_TWICE,
+        "taken": Count.QUEUED_FREE}
+RUNS = ((1, 1, 3000, False), (30, 2, 4000, True), (100, 4, 9000, False))  # threads, scanners, steps, whether it puts back one by one
+SEEDS = {("head", 1): 2, ("taken", 1): 4}  # where one thread seldom meets a scan
 
 
 class PutBackTest(JournalCase):
@@ -78,10 +83,12 @@ class PlayedTest(JournalCase):
                 self.check_legal(builder)
                 self.assertGreater(10 * builder.pages, 60 * builder.left_out)
 
-    def test_copies_alone_prove_some_bugs(self) -> None:
-        for bug, seed, law in BUGS:
-            with self.subTest(bug):
-                tallies = self.build(store_records(PlayedKernel(seed, False, None, THREADS, bug).play(3 * STEPS))).tallies
+    def test_records_alone_prove_bugs(self) -> None:
+        """Each bug is proved wherever it shows: at 1, 30 and 100 threads."""
+        for (threads, scanners, steps, one_by_one), (bug, law) in itertools.product(RUNS, BUGS.items()):
+            with self.subTest(bug, threads=threads):
+                kernel = PlayedKernel(SEEDS.get((bug, threads), SEED), one_by_one, None, threads, bug, scanners)
+                tallies = self.build(store_records(kernel.play(steps))).tallies
                 self.assertTrue(tallies[law])
 
     def test_a_wrong_kernel_is_found(self) -> None:
