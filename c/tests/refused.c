@@ -1,7 +1,7 @@
 /* Memory refused at each request in turn: the call reports it, nothing is lost, nothing is kept. And what nodes and events take. */
 #include "wanted.h"
 
-static size_t requests, refused_request, requested;
+static size_t requests, resizes, refused_request, requested;
 static long blocks;
 static int refusals;
 
@@ -14,7 +14,10 @@ static void *allocate(size_t size) {
     return memory;
 }
 
-static void *resize(void *memory, size_t size) { return is_refused() ? NULL : realloc(memory, size); }
+static void *resize(void *memory, size_t size) {
+    resizes++;
+    return is_refused() ? NULL : realloc(memory, size);
+}
 
 static void give_back(void *memory) {
     free(memory);
@@ -190,7 +193,7 @@ int main(void) {
     ANSWERS(thp_use_allocator(&counted), THP_OK);
     const size_t length = whole_life(wanted);
     const size_t all = requests;
-    WANT(refusals == 0 && all > 10);
+    WANT(refusals == 0 && all > 10 && resizes > 0);
     for (size_t k = 1; k <= all; k++) {
         requests = 0;
         refused_request = k;
