@@ -10,7 +10,7 @@ static void fill(thp_node *node) {
     uint64_t page = 7;
     ANSWERS(thp_node_alloc(node, 0, &page), THP_OK);
     WANT(page == 0);
-    for (int k = 0; k < 45000; k++) {
+    for (int k = 0; k < 140000; k++) {
         if (thp_node_pin(node, 0, page) != THP_OK || thp_node_unpin(node, 0, page, &done) != THP_OK) failures++;
     }
 }
