@@ -4,7 +4,8 @@
     tests/memory.py PROGRAM [TESTS[:FRONT] ..]
 
 PROGRAM is the built `thpsplit`. If an allocation fails, it must end with status 3, report `thpsplit: out of memory` and write
-nothing; or it manages with less memory, or without the thread, and its output is the usual one. TESTS are built tests; each
+nothing; or it manages with less memory, or without the thread, and its output is the usual one. If none fails, they must not
+request more bytes than `MOST` has. TESTS are built tests; each
 test whose name begins with FRONT (every test if there is none) must pass whichever allocation fails; it may report the failed
 call in a line `refused: CALL`. Needs a C compiler, `cc` or the one that CC names; the exit status is 77 if there is none. A
 line for each case reports the number of failed allocations; the last line is `N passed, M failed`, by cases and tests.
@@ -31,6 +32,17 @@ HERE = pathlib.Path(__file__).parent
 COMPILER = os.environ.get("CC", "cc")
 REPORTED = "thpsplit: out of memory\n"
 
+MOST = {
+    "first script": 92_600,
+    "workers, totals": 247_200,
+    "workers, journal": 254_400,
+    "workers, answers": 326_400,
+    "long sections, answers": 3_899_900,
+    "long sections, totals": 1_975_500,
+    "check": 203_500,
+}
+"""The bytes that the allocations of each case may request in all: a tenth more than they did."""
+
 Ran = subprocess.CompletedProcess[str]
 Case = tuple[str, list[str], str, str]
 """A run: a name, its options, its input, and its output."""
@@ -43,6 +55,7 @@ SECTIONS = {
     2: ["splitpmd 1 0", "unmap 1 0 0 1", "take 1 8", "splitnext 1", "putback 1", "count 1"],
     3: ["unmapwhole 2 0", "alloc 2", "map 2 1 0 3", "write 2 1 0 4", "zero 2 1 0 1", "close 2"],
 }
+LONG = {caller: ["count 0"] * 5000 for caller in (1, 2, 3)}
 
 
 def main() -> None:
@@ -76,21 +89,21 @@ class Refuser:
         words = [*COMPILER.split(), "-O2", "-shared", "-fPIC", "-o", str(self.library), str(HERE / "refuse.c"), "-ldl"]
         subprocess.run(words, check=True)
 
-    def run(self, words: Sequence[str], text: str, which: str = "MEMORY", number: int = 0) -> tuple[Ran, int, int]:
-        """The run, and the numbers of its allocations and starts of threads."""
+    def run(self, words: Sequence[str], text: str, which: str = "MEMORY", number: int = 0) -> tuple[Ran, int, int, int]:
+        """The run, the numbers of its allocations and starts of threads, and the bytes that the allocations requested."""
         with tempfile.NamedTemporaryFile(dir=self.folder) as counts:
-            counts.write(bytes(16))
+            counts.write(bytes(24))
             counts.flush()
             names = {"LD_PRELOAD": str(self.library), "REFUSE_COUNTS": counts.name, f"REFUSE_{which}": str(number)}
             env = {**os.environ, **names}
             ran = subprocess.run(words, input=text, capture_output=True, text=True, env=env, check=False)
             counts.seek(0)
-            growths, starts = struct.unpack("=QQ", counts.read())
-            return ran, growths, starts
+            growths, starts, requested = struct.unpack("=QQQ", counts.read())
+            return ran, growths, starts, requested
 
     def each(self, words: Sequence[str], text: str) -> tuple[list[Ran], list[Ran]]:
         """The runs with each allocation and then each start of a thread made to fail."""
-        _, growths, starts = self.run(words, text)
+        _, growths, starts, _ = self.run(words, text)
         asked = [("MEMORY", number) for number in range(1, growths + 1)]
         asked += [("THREAD", number) for number in range(1, starts + 1)]
         with ThreadPoolExecutor(os.cpu_count()) as pool:
@@ -100,12 +113,8 @@ class Refuser:
 
 def cases() -> Iterator[Case]:
     """Runs of the program."""
-    shapes: list[Shape] = [(16, 9, None)] * 3
-    run = Run(shapes)
-    for caller, lines in SECTIONS.items():
-        run.section(caller, lines)
-    names = ["setup", "worker 1", "worker 2", "worker 3"]
-    script = joined(line for caller, lines in SECTIONS.items() for line in (names[caller], *lines))
+    run, script = worked(SECTIONS)
+    long, long_script = worked(LONG)
     journal = joined(run.journal())
     first = Run([(16, 9, None)])
     first.section(0, FIRST.splitlines()[1:])
@@ -114,7 +123,19 @@ def cases() -> Iterator[Case]:
     yield "workers, totals", options, script, joined(run.totals())
     yield "workers, journal", [*options, "--report", "journal"], script, journal
     yield "workers, answers", [*options, "--report", "answers"], script, joined(run.answers)
+    yield "long sections, answers", [*options, "--report", "answers"], long_script, joined(long.answers)
+    yield "long sections, totals", options, long_script, joined(long.totals())
     yield "check", ["--check"], journal, "legal\n"
+
+
+def worked(sections: dict[int, list[str]]) -> tuple[Run, str]:
+    """A run of these sections on three nodes, and their script."""
+    shapes: list[Shape] = [(16, 9, None)] * 3
+    run, lines = Run(shapes), []
+    for caller, commands in sections.items():
+        run.section(caller, commands)
+        lines += [f"worker {caller}" if caller else "setup", *commands]
+    return run, joined(lines)
 
 
 def joined(lines: Iterable[str]) -> str:
@@ -130,6 +151,10 @@ def try_case(refuser: Refuser, program: str, name: str, options: list[str], text
         return {(3, "", REPORTED): "reported", (0, wanted, ""): "whole"}.get(reported, "wrong")
 
     wrong, parts = 0, []
+    requested = refuser.run([program, *options], text)[3]
+    if requested > MOST[name]:
+        print(f"{name}: {requested} bytes requested, above {MOST[name]}", flush=True)
+        wrong += 1
     growths, starts = refuser.each([program, *options], text)
     for what, whole, runs in (("growths", "met by less", growths), ("threads", "done without", starts)):
         counts = Counter(map(kind, runs))

@@ -1,6 +1,7 @@
 // Preloaded, it refuses a program one growth of memory, or one start of a thread: the one whose number, from 1 on over
-// all threads, stands in the variable REFUSE_MEMORY or REFUSE_THREAD. The file that REFUSE_COUNTS names, of 16 bytes,
-// then has how many growths and how many starts there were. tests/memory.py builds and uses it.
+// all threads, stands in the variable REFUSE_MEMORY or REFUSE_THREAD. The file that REFUSE_COUNTS names, of 24 bytes,
+// then has how many growths and how many starts there were, and how many bytes the growths requested. tests/memory.py builds
+// and uses it.
 #define _GNU_SOURCE
 #include <dlfcn.h>
 #include <errno.h>
@@ -30,7 +31,7 @@ __attribute__((constructor)) static void begin(void) {
     if (file < 0) {
         return;
     }
-    void *page = mmap(NULL, 16, PROT_READ | PROT_WRITE, MAP_SHARED, file, 0);
+    void *page = mmap(NULL, 24, PROT_READ | PROT_WRITE, MAP_SHARED, file, 0);
     close(file);
     memory_number = number_in("REFUSE_MEMORY");
     thread_number = number_in("REFUSE_THREAD");
@@ -43,29 +44,22 @@ static int is_refused(int which, unsigned long number) {
     return counts && atomic_fetch_add(&counts[which], 1) + 1 == number;
 }
 
-void *malloc(size_t size) {
+static int may_grow(size_t size) {
+    if (counts) {
+        atomic_fetch_add(&counts[2], size);
+    }
     if (is_refused(0, memory_number)) {
         errno = ENOMEM;
-        return NULL;
+        return 0;
     }
-    return __libc_malloc(size);
+    return 1;
 }
 
-void *calloc(size_t count, size_t size) {
-    if (is_refused(0, memory_number)) {
-        errno = ENOMEM;
-        return NULL;
-    }
-    return __libc_calloc(count, size);
-}
+void *malloc(size_t size) { return may_grow(size) ? __libc_malloc(size) : NULL; }
 
-void *realloc(void *memory, size_t size) {
-    if (is_refused(0, memory_number)) {
-        errno = ENOMEM;
-        return NULL;
-    }
-    return __libc_realloc(memory, size);
-}
+void *calloc(size_t count, size_t size) { return may_grow(count * size) ? __libc_calloc(count, size) : NULL; }
+
+void *realloc(void *memory, size_t size) { return may_grow(size) ? __libc_realloc(memory, size) : NULL; }
 
 int pthread_create(pthread_t *thread, const pthread_attr_t *how, void *(*run)(void *), void *with) {
     static int (*create)(pthread_t *, const pthread_attr_t *, void *(*)(void *), void *);

@@ -131,6 +131,7 @@ static void long_text(void) {
     enum { TIMES = 230 };
     thp_check check = EMPTY;
     uint64_t line = 7;
+    size_t size = 0;
     for (int k = 0; k < 4096; k++) memcpy(pairs + 26 * k, pair, 26);
     ANSWERS(thp_check_create(&check), THP_OK);
     ANSWERS(read_in_parts(&check, front, sizeof front - 1, 64), THP_OK);
@@ -138,6 +139,8 @@ static void long_text(void) {
     ANSWERS(read_in_parts(&check, back, sizeof back - 1, 64), THP_OK);
     ANSWERS(thp_check_finish(&check, &line), THP_ILLEGAL);
     WANT(line == 3 + 2 * 4096 * (uint64_t)TIMES + 1);
+    ANSWERS(thp_check_reason(&check, NULL, 0, &size), THP_TOO_SMALL);
+    WANT(size > 0);
     ANSWERS(thp_check_destroy(&check), THP_OK);
 }
 

@@ -1,7 +1,7 @@
 /* Memory refused at each request in turn: the call reports it, nothing is lost, nothing is kept. And what nodes and events take. */
 #include "wanted.h"
 
-static size_t requests, refused_request, requested;
+static size_t requests, resizes, refused_request, requested;
 static long blocks;
 static int refusals;
 
@@ -14,7 +14,10 @@ static void *allocate(size_t size) {
     return memory;
 }
 
-static void *resize(void *memory, size_t size) { return is_refused() ? NULL : realloc(memory, size); }
+static void *resize(void *memory, size_t size) {
+    resizes++;
+    return is_refused() ? NULL : realloc(memory, size);
+}
 
 static void give_back(void *memory) {
     free(memory);
@@ -160,6 +163,28 @@ static void figures(void) {
     WANT(of_events == 96 * 100000 && of_none == 0);
 }
 
+/* the memory that creates a cell of so many callers, and then that of a pass of the upper half of them */
+static size_t memory_of_cell(uint32_t callers, size_t *of_half) {
+    thp_pass pass = THP_PASS_INIT, half = THP_PASS_INIT;
+    requested = 0;
+    ANSWERS(thp_cell_create(&pass, 1, 9, THP_UNDERUSED_OFF, callers), THP_OK);
+    const size_t of_cell = requested;
+    ANSWERS(thp_pass_split(&pass, callers / 2, &half), THP_OK);
+    *of_half = requested - of_cell;
+    ANSWERS(thp_pass_destroy(&half), THP_OK);
+    ANSWERS(thp_pass_destroy(&pass), THP_OK);
+    return of_cell;
+}
+
+/* about 1 KB for a caller of a cell, and for a caller of the upper pass as much again while its batch moves */
+static void figures_of_cells(void) {
+    size_t of_one, of_half;
+    const size_t of_two = memory_of_cell(2, &of_one);
+    const size_t caller = (memory_of_cell(64, &of_half) - of_two) / 62;
+    WANT(caller > 1000 && caller < 1100);
+    WANT(of_half - of_one > 31 * 2000 && of_half - of_one < 31 * 2200);
+}
+
 int main(void) {
     static const thp_allocator counted = {allocate, resize, give_back};
     static const thp_allocator cut = {allocate, NULL, give_back};
@@ -168,7 +193,7 @@ int main(void) {
     ANSWERS(thp_use_allocator(&counted), THP_OK);
     const size_t length = whole_life(wanted);
     const size_t all = requests;
-    WANT(refusals == 0 && all > 10);
+    WANT(refusals == 0 && all > 10 && resizes > 0);
     for (size_t k = 1; k <= all; k++) {
         requests = 0;
         refused_request = k;
@@ -179,6 +204,7 @@ int main(void) {
     }
     reserved();
     figures();
+    figures_of_cells();
     counting();
     if (failures == 0) printf("refused: done, each of %lu requests\n", (unsigned long)all);
     return failures != 0;

@@ -1,4 +1,4 @@
-/* Sizes at which nothing may lack memory: long journals, long parts of a text, long reasons, many callers, passes divided twice. */
+/* Sizes at which nothing may fail: long journals, long parts of a text, long reasons, each number of callers, passes divided twice. */
 #include "wanted.h"
 
 enum { MEBIBYTE = 1 << 20 };
@@ -10,7 +10,7 @@ static void fill(thp_node *node) {
     uint64_t page = 7;
     ANSWERS(thp_node_alloc(node, 0, &page), THP_OK);
     WANT(page == 0);
-    for (int k = 0; k < 45000; k++) {
+    for (int k = 0; k < 140000; k++) {
         if (thp_node_pin(node, 0, page) != THP_OK || thp_node_unpin(node, 0, page, &done) != THP_OK) failures++;
     }
 }
@@ -83,10 +83,34 @@ static void many_callers(void) {
     }
 }
 
+/* A cell of each number of callers, which stores or counts its events: its last caller's pass is divided off, joined, and the cell ends. */
+static void each_number_of_callers(void) {
+    static const thp_pass EMPTY = THP_PASS_INIT;
+    for (uint32_t of = 0; of < 2 * THP_MAX_CALLERS; of++) {
+        const uint32_t callers = of / 2 + 1;
+        thp_pass pass = EMPTY, last = EMPTY;
+        thp_node node = THP_NODE_INIT;
+        uint64_t page = 7;
+        thp_stats stats;
+        ANSWERS((of % 2 ? thp_cell_create_counting : thp_cell_create)(&pass, 2, 2, THP_UNDERUSED_OFF, callers), THP_OK);
+        ANSWERS(thp_pass_alloc(&pass, callers - 1, &page), THP_OK);
+        if (callers > 1) {
+            ANSWERS(thp_pass_split(&pass, callers - 1, &last), THP_OK);
+            ANSWERS(thp_pass_alloc(&last, callers - 1, &page), THP_OK);
+            ANSWERS(thp_pass_join(&pass, &last), THP_OK);
+        }
+        ANSWERS(thp_cell_finish(&pass, &node), THP_OK);
+        ANSWERS(thp_node_stats(&node, &stats), THP_OK);
+        WANT(stats.allocations == (callers > 1 ? 2 : 1));
+        ANSWERS(thp_node_destroy(&node), THP_OK);
+    }
+}
+
 int main(void) {
     long_journal();
     long_reason();
     many_callers();
+    each_number_of_callers();
     if (failures == 0) printf("sizes: done\n");
     return failures != 0;
 }

@@ -4,7 +4,7 @@
 use std::ffi::c_void;
 use std::sync::atomic::{AtomicIsize, Ordering::SeqCst};
 
-use leversorrel::{check, Check, Fault, Node, NodeCell, Verdict};
+use leversorrel::{check, Check, Fault, Node, NodeCell, Tried, Verdict};
 use leversorrel_sys::{thp_allocator, thp_use_allocator, THP_OK};
 
 extern "C" {
@@ -78,12 +78,36 @@ fn lose_a_check() -> Result<(), Fault> {
     Ok(())
 }
 
+// Whether the first try of a batch lacks memory after so many other events; the next item is then a try of the same page.
+fn refused_try_is_repeated(others: usize) -> Result<bool, Fault> {
+    let mut node = Node::new(4, 2, None)?;
+    for page in 0..2 {
+        node.alloc(0)?;
+        node.split_pmd(0, page)?;
+        node.unmap_sub(0, page, 0, 2)?;
+    }
+    for _ in 0..others {
+        node.zero(0, 0, 2, 1)?;
+    }
+    let mut batch = node.batch(1, 2)?;
+    let mut tries = batch.tries();
+    LEFT.store(0, SeqCst);
+    let first = tries.next();
+    LEFT.store(isize::MAX, SeqCst);
+    let is_refused = first == Some(Err(Fault::OutOfMemory));
+    if is_refused {
+        assert_eq!(tries.collect::<Vec<_>>(), [Ok(Tried::Split(0)), Ok(Tried::Split(1))]);
+    }
+    Ok(is_refused)
+}
+
 #[test]
 fn memory_comes_back_and_its_want_is_an_error() {
     let own = thp_allocator { allocate: Some(allocate), resize: Some(resize), give_back: Some(give_back) };
     // SAFETY: the functions are static, and this is the first call of the library.
     assert_eq!(unsafe { thp_use_allocator(&own) }, THP_OK);
     assert_eq!((use_all(), HELD.load(SeqCst)), (Ok(()), 0));
+    assert!((0..200).any(|others| refused_try_is_repeated(others) == Ok(true)));
     for calls in [use_all, lose_a_check] {
         for granted in 0.. {
             LEFT.store(granted, SeqCst);

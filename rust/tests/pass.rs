@@ -155,6 +155,18 @@ fn a_cell_is_made_of_its_passes_alone() -> Result<(), Fault> {
     assert!(matches!(NodeCell::from_passes(vec![stranger, last]), Err((_, Fault::BadPass))));
     assert!(matches!(NodeCell::from_passes(passes), Err((_, Fault::BadPass))));
     assert!(matches!(NodeCell::from_passes(Vec::new()), Err((_, Fault::BadPass))));
+    let mut passes = NodeCell::new(4, 2, None, 6)?.into_passes().map_err(|(_, fault)| fault)?;
+    passes.remove(2);
+    let Err((passes, Fault::BadPass)) = NodeCell::from_passes(passes) else {
+        panic!("a cell was made of some of its passes");
+    };
+    assert_eq!(passes.iter().map(|pass| pass.callers()).collect::<Vec<_>>(), [0..2, 3..4, 4..5, 5..6]);
+    let mut passes = NodeCell::new(4, 2, None, 6)?.into_passes().map_err(|(_, fault)| fault)?;
+    passes.remove(2);
+    let Err((passes, Fault::BadPass)) = NodeCell::from_passes(passes) else {
+        panic!("a cell was made of some of its passes");
+    };
+    assert_eq!(passes.iter().map(|pass| pass.callers()).collect::<Vec<_>>(), [0..2, 3..4, 4..5, 5..6]);
     let passes = NodeCell::new(4, 2, None, 3)?.into_passes().map_err(|(_, fault)| fault)?;
     let cell = NodeCell::from_passes(passes.into_iter().rev().collect()).map_err(|(_, fault)| fault)?;
     assert!(cell.finish().is_ok());

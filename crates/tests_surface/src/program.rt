@@ -149,7 +149,9 @@ fn is_answered<R: Read, W: Write>(reader: &mut Watched<R>, writer: &mut Watched<
     answered && !reader.failed() && !writer.failed()
 }
 
-const JOURNAL: &[u8] = b"thp-journal 1\nnode 0 blocks 4\n0 alloc 0\nend\n";
+// Eight nodes, of which only the first has an event.
+const JOURNAL: &[u8] =
+    b"thp-journal 1\nnode 0 blocks 4\n0 alloc 0\nnode 1 blocks 1\nnode 2 blocks 1\nnode 3 blocks 1\nnode 4 blocks 1\nnode 5 blocks 1\nnode 6 blocks 1\nnode 7 blocks 1\nend\n";
 
 // Whether this is the journal, by its shape, its line and its events.
 fn is_first(node: &NodeJournal) -> bool {
@@ -162,7 +164,7 @@ fn is_first(node: &NodeJournal) -> bool {
 fn is_journal(alloc: Global) -> bool {
     let first = match read_journal(alloc, JOURNAL) {
         Ok(Journals { nodes }) => match nodes.as_slice().first() {
-            Some(node) => is_first(node),
+            Some(node) => nodes.len() == 8 && is_first(node),
             None => false,
         },
         Err(_) => false,
