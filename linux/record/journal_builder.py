@@ -40,7 +40,7 @@ class JournalBuilder(TracedScans):
         self.batches = None if batches is None else deque(batches)
         laws = QueueLaws(self)
         handlers = [getattr(self, f"handle_{kind.name.lower()}", lambda record: None) for kind in Kind]  # a fault has only ended a step
-        for record, until in with_bounds(records):
+        for record, until in ((record, 0) for record in records) if batches is None else with_bounds(records):
             laws.see(record)
             self.begin_batches(until)
             self.now, self.task = record.time, record.task

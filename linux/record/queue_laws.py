@@ -39,7 +39,8 @@ class QueueLaws:
         self._running: dict[int, RunningScan] = {}  # by tasks
         self._ended = 0  # when a scan ended last
         self._settled = 0  # until when scans that have ended may have taken pages
-        self._changed: dict[int, int] = {}  # when pages were last freed, or (below 0) made
+        self._changed: dict[int, int] = {}  # when pages were last freed or made
+        self._free: dict[int, int] = {}  # of those, when pages were freed that weren't made since
         self._last: list[int] = []  # the last copy
         self._begun = 0  # and when that was
 
@@ -48,12 +49,14 @@ class QueueLaws:
         kind, time, changed = record.kind, record.time, self._changed
         if kind in PLACES:
             self._note(record, record.values[PLACES[kind]])
-        is_quiet = not self._running and self._ended < time
-        self._tallies[Count.MET_TWICE] += bool(record.twice) and is_quiet and abs(changed.get(record.twice, 0)) < time
-        self._tallies[Count.FOREIGN] += bool(record.foreign)
+        if record.twice and not self._running and self._ended < time and changed.get(record.twice, 0) < time:
+            self._tallies[Count.MET_TWICE] += 1
+        if record.foreign:
+            self._tallies[Count.FOREIGN] += 1
         if record.queue is not None:
-            freed = (changed[folio] for folio in changed.keys() & record.queue)
-            self._tallies[Count.QUEUED_FREE] += sum(0 < each < time < each + SOON for each in freed)
+            freed = [self._free[folio] for folio in record.queue if folio in self._free]
+            if freed:
+                self._tallies[Count.QUEUED_FREE] += sum(each < time < each + SOON for each in freed)
             self._compare(record.queue, time)
         if kind is Kind.TRIED and record.task in self._running:
             scan = self._running[record.task]
@@ -71,13 +74,18 @@ class QueueLaws:
         is_free, changed = record.kind is Kind.FREE, self._changed
         is_frame = is_free and record.values[1] == 0
         if not is_frame or page in changed:
-            changed[page] = record.time if is_free else -record.time
+            changed[page] = record.time
+            self._free.pop(page, None)
+            if is_free:
+                self._free[page] = record.time
         if len(changed) > MANY:
-            self._changed = {each: time for each, time in changed.items() if abs(time) > record.time - SOON}
+            self._changed = {each: time for each, time in changed.items() if time > record.time - SOON}
+            self._free = {each: time for each, time in self._free.items() if each in self._changed}
             self._last = []
         scan = self._running.get(record.task) if is_frame else None
         if scan and page & self._mask in scan.pages:
-            self._tallies[Count.FREED_TWICE] += bool(record.values[2]) and page in scan.frames
+            if record.values[2] and page in scan.frames:
+                self._tallies[Count.FREED_TWICE] += 1
             scan.frames.add(page)
             scan.taken = scan.taken or record.time
 
@@ -88,7 +96,8 @@ class QueueLaws:
         if queue[: len(last)] == last or self._settled >= since:
             return
         if all(scan.takes_once and 0 < scan.taken < since for scan in self._running.values()):
-            steady = [folio for folio in queue if abs(changed.get(folio, 0)) < since]
+            steady = [folio for folio in queue if changed.get(folio, 0) < since]
             members = {*steady}
             stayed = [folio for folio in last if folio in members]
-            self._tallies[Count.OVERTAKEN] += steady[: len(stayed)] != stayed
+            if steady[: len(stayed)] != stayed:
+                self._tallies[Count.OVERTAKEN] += 1

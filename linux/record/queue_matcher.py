@@ -66,12 +66,12 @@ class QueueMatcher(MappingEvents):
         processes that are ending."""
         own_queue = {page.folio for page in self.queue}
         made = {call.values[4]: key for key, call in self.pending.items() if call.kind is Kind.COLLAPSED}
-        for folio in queue:
+        for folio in [folio for folio in queue if folio not in own_queue]:
             if folio in made and made[folio] in self.pending:
                 self.apply(self.pending.pop(made[folio]), queue)
                 continue
             page = self.at.get(folio)
-            if page and folio not in own_queue and not page.is_taken and page.born <= self.now:
+            if page and not page.is_taken and page.born <= self.now:
                 self.emit_join(page, queue)
                 if page not in self.queue and page.is_live:
                     self.omit(page, Omission.UNKNOWN_JOIN)

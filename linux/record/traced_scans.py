@@ -81,8 +81,9 @@ class TracedScans(ScanEvents):
     def match(self, queue: list[int] | None) -> None:
         """The same with the places of pages that were put back since: beside them other pages have joined. A copy that lacks what a batch
         takes only later in the journal shows nothing."""
-        members = {*self.queue} - {*self.joining.values()}
-        for batch in islice(self.batches or (), NEXT) if queue is not None else ():
+        upcoming = [*islice(self.batches or (), NEXT)] if queue is not None else []
+        members = {*self.queue} - {*self.joining.values()} if upcoming else set()
+        for batch in upcoming:
             tried = {folio for folio in batch.tries if self.at.get(folio) in members}
             if batch.asked < self.now + WALK and tried and tried.isdisjoint(queue or ()):
                 return
