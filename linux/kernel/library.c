@@ -267,8 +267,33 @@ int thp_record_take(struct recorder *recorder, int file, size_t room, long *coun
 	return taken < 0 ? taken : 0;
 }
 
+/* At most how many runs no copy of a program made: of each program, the least that one of its copies was left out. */
+static uint64_t count_left_out(const struct bpf_object *object)
+{
+	struct bpf_program *program;
+	const char *last = NULL;
+	uint64_t sum = 0, least = 0;
+
+	bpf_object__for_each_program(program, object) {
+		const char *section = bpf_program__section_name(program);
+		struct bpf_prog_info info = {};
+		__u32 size = sizeof(info);
+
+		if (bpf_obj_get_info_by_fd(bpf_program__fd(program), &info, &size))
+			continue;	/* it isn't loaded */
+		if (!last || strcmp(last, section)) {
+			sum += least;
+			least = UINT64_MAX;
+		}
+		last = section;
+		least = info.recursion_misses < least ? info.recursion_misses : least;
+	}
+	return sum + least;
+}
+
 void thp_record_counters(const struct recorder *recorder, struct thp_counters *counters)
 {
 	*counters = recorder->programs->bss->counters;
+	counters->left_out = count_left_out(recorder->programs->obj);
 	counters->refused = recorder->refused;
 }

@@ -37,6 +37,7 @@ struct thp_counters {
 	unsigned long long lost;	/* records that found no room */
 	unsigned long long missed;	/* ends of system calls that no program saw */
 	unsigned long long unobserved;	/* begins and ends of the kernel's functions that none saw */
+	unsigned long long left_out;	/* at most so many runs of the programs */
 	unsigned long long inner_pages;	/* huge pages of groups in the recorded one */
 	unsigned long long refused;	/* why no functions are traced: an error number; 0: they are */
 };

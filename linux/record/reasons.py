@@ -84,6 +84,7 @@ class Count(Reason):
     ZEROS_BACK = "splits that gave mapped zero-filled subpages back with the switch off (B)", Origin.KERNEL
     HELD_BY_SCAN = "last unmaps while a scan held the page (R)", Origin.KERNEL
     OBSERVED = "joins and tries observed as inferred"
+    LEFT_OUT = "runs of the trace programs, at most, that the kernel left out", Origin.LIMIT, FEWER
     UNOBSERVED = "functions' begins and ends that no trace program saw: the kernel left them out", Origin.LIMIT, FEWER
     CONTRADICTED = "events that observation contradicts", Origin.LIMIT, FEWER
     UNTRIED = "pages put back without a try, as observed: another task held their lock", Origin.KERNEL

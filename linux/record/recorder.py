@@ -204,6 +204,8 @@ def describe(tracks: list[Track], running: Commands, is_full: bool, ended: str, 
     inner = max(each.inner_pages for each in counters)
     if inner:
         lacking.append(f"control groups were made in the recorded one: {inner} huge pages of their tasks aren't followed")
-    lost, unobserved = sum(each.lost for each in counters), sum(each.unobserved for each in counters)
-    doubts = {Doubt.LOST: lost, Doubt.DISK_FULL: is_full * sum(track.store.count for track in tracks), Count.UNOBSERVED: unobserved}
+    doubts: dict[Reason, int] = {Doubt.DISK_FULL: is_full * sum(track.store.count for track in tracks)}
+    for each in counters:
+        found = {Doubt.LOST: each.lost, Count.LEFT_OUT: each.left_out, Count.UNOBSERVED: each.unobserved}
+        doubts.update({reason: doubts.get(reason, 0) + many for reason, many in found.items()})
     return Recording(tracks, doubts, running.statuses(), ended, lacking, threshold)

@@ -122,7 +122,7 @@ class Report:
             return SKIPPED, "empty, no huge page was followed", []
         letters = sorted({reason.letter for reason, many in tallies.items() if many} - {""})
         doubts = [f"{tallies[doubt]} {doubt.text} [{describe(doubt)}]" for doubt in Doubt if tallies[doubt]]
-        is_whole = not any(tallies[doubt] for doubt in (Doubt.LOST, Doubt.DISK_FULL, Count.UNOBSERVED))
+        is_whole = not any(tallies[doubt] for doubt in (Doubt.LOST, Doubt.DISK_FULL, Count.LEFT_OUT, Count.UNOBSERVED))
         line, explained = journal.check(self._by)
         doubt = None if line is None else doubt_at(builders, line)
         if line is not None and is_whole and not doubt:
