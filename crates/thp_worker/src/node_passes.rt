@@ -1,17 +1,19 @@
 //! Passes of all nodes, with the open batches of their callers.
 ghost use Rattle.std.specs.Prelude.{◌≡◌, ◌<◌, All, IfOk, map};
-ghost use Rattle.thp_worker.specs.Prelude.{HoldsAllCallers, keeping_node};
-ghost use Rattle.thp_run.specs.Passes.{Agree, IsOfAll, fronts_in};
+ghost use Rattle.thp_worker.specs.Prelude.{Agree, HoldsAllCallers, IsOfAll, fronts_in, keeping_node};
 
+use crate::halves::Passes;
+use crate::node_pass::NodePass;
+use crate::reply::Reply;
+use crate::steps::{Step, Steps};
 use std::alloc::{AllocError, Global};
 use std::marker::Model;
 use thp_cell::CellFault;
-use thp_node::Recorder;
-use thp_worker::{NodePass, Passes, Reply, Step, Steps};
+use thp_node::{FullLog, Recorder};
 
 /// A pass of each node, all with the same callers. Contracts see what the holder knows of the nodes.
 #[derive(Drop)]
-pub(crate) struct NodePasses<'a, R: Recorder> {
+pub struct NodePasses<'a, R: Recorder = FullLog> {
     callers: u32,
     first: u32,
     end: u32,
@@ -19,7 +21,7 @@ pub(crate) struct NodePasses<'a, R: Recorder> {
 }
 
 impl<'a, R: Recorder> Model for NodePasses<'a, R> {
-    ghost use Rattle.thp_run.specs.Passes.{Passes, Agree};
+    ghost use Rattle.thp_worker.specs.Passes.{Passes, Agree};
 
     ghost Value = { Passes };
 
@@ -29,7 +31,7 @@ impl<'a, R: Recorder> Model for NodePasses<'a, R> {
 }
 
 impl<'a, R: Recorder> Steps for NodePasses<'a, R> {
-    ghost use Rattle.thp_run.specs.Passes.{fronts_in};
+    ghost use Rattle.thp_worker.specs.Passes.{fronts_in};
 
     ghost fronts = { fronts_in };
 
@@ -56,12 +58,7 @@ impl<'a, R: Recorder> Steps for NodePasses<'a, R> {
 
 impl<'a, R: Recorder> NodePasses<'a, R> {
     /// Creates the passes of the nodes, each with the callers from `first` on and below `end`, of `callers` in all.
-    pub(crate) fn new(
-        nodes: Vec<NodePass<'a, R>>,
-        callers: u32,
-        first: u32,
-        end: u32,
-    ) -> NodePasses<'a, R>
+    pub fn new(nodes: Vec<NodePass<'a, R>>, callers: u32, first: u32, end: u32) -> NodePasses<'a, R>
         requires { Agree callers first end nodes.items }
         ensures { result ≡ record { callers = callers; first = first; end = end; held = nodes.entry.items } }
     {
@@ -74,7 +71,7 @@ impl<'a, R: Recorder> NodePasses<'a, R> {
     }
 
     /// Returns the passes of the nodes.
-    pub(crate) fn into_nodes(self) -> Vec<NodePass<'a, R>>
+    pub fn into_nodes(self) -> Vec<NodePass<'a, R>>
         ensures items { result.items ≡ self.entry.held }
         ensures agree { Agree self.entry.callers self.entry.first self.entry.end result.items }
     {
