@@ -51,7 +51,7 @@ class Settings(ctypes.Structure):
 class Counters(ctypes.Structure):
     """struct thp_counters."""
 
-    _fields_ = [(name, ctypes.c_uint64) for name in ("lost", "missed", "unobserved", "left_out", "inner_pages", "refused")]
+    _fields_ = [(name, ctypes.c_uint64) for name in ("lost", "unobserved", "left_out", "inner_pages", "refused")]
 
 
 @lru_cache(maxsize=None)

@@ -17,6 +17,8 @@ static __always_inline bool is_linked(struct folio *folio)
 	return folio && (__u64)READ(folio->_deferred_list.next) != (__u64)&folio->_deferred_list;
 }
 
+static __always_inline void begin_unseen(void);	/* record.bpf.c */
+
 /* Notes when a function begins. Which of the copies runs first isn't known. */
 static __always_inline int enter(enum kind kind, struct folio *folio, bool is_ours)
 {
@@ -25,6 +27,8 @@ static __always_inline int enter(enum kind kind, struct folio *folio, bool is_ou
 
 	if (!state)
 		return 0;
+	if (kind == QUEUED)
+		begin_unseen();
 	function = &state->functions[kind - QUEUED];
 	if (function->began && function->folio == (__u64)folio)
 		return 0;

@@ -24,6 +24,7 @@ enum { MMAP = 9, MPROTECT = 10, MUNMAP = 11, BRK = 12, MREMAP = 25, MADVISE = 28
 enum { FIXED = 0x10, NOREPLACE = 0x100000, ERRORS = 4095, WRITTEN = 3 };
 enum { FRAME_END = 52 };
 enum { STACK = 1 << 14 };	/* bytes of a task's stack on x86-64 */
+#define FACTOR 0x9e3779b97f4a7c15ull	/* of a hash */
 
 /* calls */
 
@@ -48,6 +49,12 @@ static __always_inline bool matters(long number, struct pt_regs *regs, struct ta
 	return length && may_have(space, start >> (BASE_BITS + PMD_ORDER), (start + length - 1) >> (BASE_BITS + PMD_ORDER));
 }
 
+/* A number by which a task's calls differ, unless they ask for the same. */
+static __always_inline __u64 hash_of(long number, struct pt_regs *regs)
+{
+	return ((regs->dx * FACTOR + regs->si) * FACTOR + regs->di) * FACTOR + number;
+}
+
 static __always_inline int begin_call(int copy, struct pt_regs *regs, long number)
 {
 	struct task_struct *task;
@@ -58,16 +65,15 @@ static __always_inline int begin_call(int copy, struct pt_regs *regs, long numbe
 		return 0;
 	task = bpf_get_current_task_btf();
 	state = own_state(task);
-	if (!state || (copy && state->has_entered))
+	if (!state || (copy && state->has_entered && state->call == hash_of(number, regs)))
 		return 0;
-	if (state->has_entered)
-		__sync_fetch_and_add(&counters.missed, 1);	/* the end of its last call */
 	state->address = state->last = 0;
 	state->has_left = false;
 	if (!state->is_next && !matters(number, regs, task))
 		return 0;
 	state->is_next = false;
 	state->has_entered = true;
+	state->call = hash_of(number, regs);
 	space = space_of((__u64)task->mm);
 	if (space && number == MREMAP)
 		space->all = 1;	/* where the mapping goes isn't known yet */
@@ -79,6 +85,16 @@ static __always_inline int begin_call(int copy, struct pt_regs *regs, long numbe
  * don't belong. tp_btf: reads registers and the task.
  */
 IN_COPIES("tp_btf/sys_enter", on_enter, begin_call(copy, regs, number), struct pt_regs *regs, long number)
+
+/* A page is queued: sends the begin of the call of which that is a part, if no program saw it. */
+static __always_inline void begin_unseen(void)
+{
+	struct task_struct *task = bpf_get_current_task_btf();
+	struct pt_regs *regs = (void *)bpf_task_pt_regs(task);
+
+	if (task->mm && regs)
+		begin_call(1, regs, regs->orig_ax);
+}
 
 /* The folio that is known at an address, and in `home` its place; 0: none. */
 static __always_inline __u64 find_home(struct thp_home *home, __u64 address)
@@ -141,7 +157,7 @@ static __always_inline void add_counts(struct thp_record *record, long result)
 static __always_inline int end_call(int copy, struct pt_regs *regs, long result)
 {
 	long number = regs->orig_ax;
-	__u32 slot = OF_CALL + copy;
+	__u32 slot = 0;
 	struct thp_record *record;
 	struct task_struct *task;
 	struct thp_task *state;
@@ -150,15 +166,16 @@ static __always_inline int end_call(int copy, struct pt_regs *regs, long result)
 		return 0;
 	task = bpf_get_current_task_btf();
 	state = own_state(task);
-	if (!state || (copy && state->has_left))
+	if (!state || (copy && state->has_left && state->call == hash_of(number, regs)))
 		return 0;
-	if (!state->has_entered) {
+	if (!state->has_entered || state->call != hash_of(number, regs)) {
 		if (!matters(number, regs, task))
 			return 0;
 		send(ENTER, task, VALUES(number, regs->di, regs->si, regs->dx, task->mm->brk));
 	}
 	state->has_entered = false;
 	state->has_left = true;
+	state->call = hash_of(number, regs);
 	record = bpf_map_lookup_elem(&scratch, &slot);
 	if (!record)
 		return 0;
@@ -369,7 +386,7 @@ static __always_inline int note_collapse(int copy, struct mm_struct *mm, int sta
 	home.block = index >> PMD_ORDER << 4 | PMD_ORDER;
 	bpf_map_update_elem(&homes, &home, &folio, BPF_ANY);
 	add_page(home.space, index << BASE_BITS);
-	return send_with_queue(OF_COLLAPSE + copy, COLLAPSED, task, VALUES(home.space, status, folio, index));
+	return send_with_queue(COLLAPSED, task, VALUES(home.space, status, folio, index));
 }
 
 /*
@@ -433,7 +450,7 @@ static __always_inline int end_space(int copy, struct mm_struct *mm)
 
 	if (bpf_map_delete_elem(&spaces, &space))
 		return 0;
-	return send_with_queue(OF_MM + copy, EXIT_MMAP, bpf_get_current_task_btf(), VALUES(space));
+	return send_with_queue(EXIT_MMAP, bpf_get_current_task_btf(), VALUES(space));
 }
 
 /* exit_mmap: an address space has ended, with the queue (EXIT_MMAP). tp_btf: reads the task. */
@@ -452,7 +469,7 @@ static __always_inline int begin_scan(int copy, struct shrinker *shrinker, struc
 		return 0;
 	__sync_fetch_and_add(&running_scans, !state->scans);
 	state->scans = true;
-	return send_with_queue(OF_SCAN + copy, SCAN, task, VALUES(total, freeable));
+	return send_with_queue(SCAN, task, VALUES(total, freeable));
 }
 
 /* mm_shrink_slab_start: the shrinker begins on the queue, with the queue (SCAN). tp_btf: reads shrinker and control. */
@@ -471,7 +488,7 @@ static __always_inline int end_scan(int copy, struct shrinker *shrinker, int fre
 		return 0;
 	__sync_fetch_and_sub(&running_scans, 1);
 	state->scans = false;
-	return send_with_queue(OF_SCANNED + copy, SCANNED, task, VALUES(freed, total));
+	return send_with_queue(SCANNED, task, VALUES(freed, total));
 }
 
 /* mm_shrink_slab_end: the end of a scan of our queue, with the queue (SCANNED). Its group isn't among the arguments: the task's

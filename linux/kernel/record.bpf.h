@@ -22,6 +22,7 @@ struct thp_task {
 	__u64 last;		/* the page or address of the last allocation or move that was sent, since its last fault or call */
 	bool has_entered;	/* the begin of its call was sent */
 	bool has_left;		/* the end of its call was sent */
+	__u64 call;		/* the hash of that call */
 	bool scans;
 	struct thp_function functions[KINDS - QUEUED];
 };
@@ -56,9 +57,8 @@ struct {
 MAP(spaces, HASH, SPACES, __u64, struct thp_space);
 MAP(homes, LRU_HASH, HOMES, struct thp_home, __u64);		/* the folio at a place of its order */
 MAP(tracked, HASH, TRACKED, __u64, struct thp_seen);		/* blocks whose frees are recorded, a bit for each frame whose free was */
-/* records with a queue, one of each program: on a processor it never runs within itself */
-enum slot { OF_MM, OF_COLLAPSE = COPIES, OF_SCAN = 2 * COPIES, OF_SCANNED = 3 * COPIES, OF_CALL = 4 * COPIES };
-MAP(scratch, PERCPU_ARRAY, 5 * COPIES, __u32, struct thp_record);
+/* a record with a queue: programs that send one aren't preempted, nor run in interrupts */
+MAP(scratch, PERCPU_ARRAY, 1, __u32, struct thp_record);
 
 static const struct thp_space blank;
 
@@ -264,12 +264,12 @@ static __always_inline int add_queue(struct thp_record *record)
 {
 	__u32 numa_node = settings.numa_node < 0 ? 0 : settings.numa_node;
 	struct thp_walk walk = { .record = record, .charge = settings.group };
-	__u64 count = QUEUE_MOST + 1, size;
+	__u64 count = TORN, size;
 
 	walk.head = find_queue(settings.queue_lists, settings.group, false, numa_node, 0);
 	if (!walk.head)
 		count = 0;
-	for (int i = 0; i < TRIES && count > QUEUE_MOST; i++) {
+	for (int i = 0; i < TRIES && count == TORN; i++) {
 		walk.at = (__u64)READ(((struct list_head *)walk.head)->next);
 		walk.count = walk.foreign = 0;
 		bpf_loop(QUEUE_MOST + 1, step, &walk, 0);
@@ -284,8 +284,9 @@ static __always_inline int add_queue(struct thp_record *record)
 	return lose();
 }
 
-static __always_inline int send_with_queue(__u32 slot, enum kind kind, struct task_struct *task, const __u64 *values)
+static __always_inline int send_with_queue(enum kind kind, struct task_struct *task, const __u64 *values)
 {
+	__u32 slot = 0;
 	struct thp_record *record = bpf_map_lookup_elem(&scratch, &slot);
 
 	if (!record)

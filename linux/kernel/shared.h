@@ -7,7 +7,8 @@ enum { PMD_ORDER = 9, BASE_BITS = 12 };
 
 /* records of a recording: linux/record/records.py, Kind */
 
-enum { QUEUE_MOST = 500, COPIES = 3 };	/* pages of a queue that a record has room for; programs of a tracepoint (record.bpf.h) */
+enum { QUEUE_MOST = 2000 };	/* pages of a queue that a record has room for */
+#define TORN 0xffffffffu	/* instead of their number: the walk of the queue didn't end where it began */
 enum kind { ENTER, EXIT, FAULT, ALLOC, FREE, FORK, EXIT_MMAP, SCAN, SCANNED, COPY, COLLAPSED, MOVED, CONTENTS,
 	    QUEUED, UNQUEUED, BATCH, TRIED, KINDS };
 enum how { IN_FAULT = 1, IN_NONE = 2 };
@@ -15,8 +16,8 @@ enum how { IN_FAULT = 1, IN_NONE = 2 };
 struct thp_record {
 	unsigned long long kind, time, task, space, values[9];
 	unsigned long long space_end;	/* 0; linux/record/store.py links records here .. */
-	unsigned long long count;	/* low half: pages of the queue; more than QUEUE_MOST: its walk didn't end where it began;
-					   high half: the place of the first that is another group's, from 1; 0: none is */
+	unsigned long long count;	/* low half: pages of the queue, or TORN; high half: the place of the first that is another
+					   group's, from 1; 0: none is */
 	unsigned long long link;	/* .. and here */
 	unsigned long long folios[QUEUE_MOST];
 };
@@ -35,7 +36,6 @@ struct thp_settings {
 
 struct thp_counters {
 	unsigned long long lost;	/* records that found no room */
-	unsigned long long missed;	/* ends of system calls that no program saw */
 	unsigned long long unobserved;	/* begins and ends of the kernel's functions that none saw */
 	unsigned long long left_out;	/* at most so many runs of the programs */
 	unsigned long long inner_pages;	/* huge pages of groups in the recorded one */

@@ -15,7 +15,7 @@ from typing import Iterable
 
 from ..common.files import BASE, PMD_ORDER
 from ..common.subpages import runs
-from .calls import COLLAPSE, COPIED, MADVISE, MADV_COLLAPSE, has_succeeded, list_effects
+from .calls import COLLAPSE, COPIED, MADVISE, MADV_COLLAPSE, MREMAP, has_succeeded, list_effects
 from .observed import Observations
 from .queue_laws import QueueLaws
 from .reasons import Count, Doubt, Omission
@@ -78,12 +78,16 @@ class JournalBuilder(TracedScans):
             self.emit_join(page, [page.folio])
 
     def _end_last_step(self, record: Record) -> None:
-        """Ends what a task's last record has begun: its next record shows that it is over."""
+        """Ends what a task's last record has begun: its next record shows that it is over, and a fault or another call that a call is."""
         self.joining.pop(record.task, None)
         self._fault_pages.pop(record.task, None)
         copied = self.pending.pop((record.task, Kind.COPY), None)
         if copied:
             self.apply(copied, None)
+        if record.kind in (Kind.ENTER, Kind.FAULT, Kind.COPY) or (record.kind is Kind.ALLOC and record.values[2] == IN_FAULT):
+            missed = self.pending.pop((record.task, Kind.ENTER), None)
+            if missed:
+                self._end_unseen(missed)
 
     def _begin(self, kind: Kind, record: Record, space: int, *values: int) -> None:
         """Begins what counts as a call of a record's task: a copy or a collapse."""
@@ -91,13 +95,18 @@ class JournalBuilder(TracedScans):
         self.pending[record.task, kind] = Record(kind, record.time, record.task, space, values, None)
 
     def handle_enter(self, record: Record) -> None:
-        """A system call runs from here on. If the task's last one still does, its end wasn't recorded, and it isn't known what it did."""
-        missed = self.pending.get((record.task, Kind.ENTER))
-        if missed:
-            for effect in list_effects(missed):
-                for page in self.pages_between(missed.space, effect.start, effect.end):
-                    self.omit(page, Omission.MISSED_END)
+        """A system call runs from here on."""
         self.pending[record.task, Kind.ENTER] = record
+
+    def _end_unseen(self, call: Record) -> None:
+        """Emits what a system call has done whose end wasn't recorded, as if it had succeeded; where mremap has moved areas isn't known."""
+        reached = [page for each in list_effects(call) for page in self.pages_between(call.space, each.start, each.end)]
+        self.tallies[Count.PRESUMED] += bool(reached)
+        if call.values[0] != MREMAP:
+            self.apply(call, None)
+            return
+        for page in reached:
+            self.omit(page, Omission.MISSED_END)
 
     def handle_exit(self, record: Record) -> None:
         """Emits what a system call has done."""

@@ -44,7 +44,7 @@ class Doubt(Reason):
     DISK_FULL = "records reached the limit of --disk", Origin.LIMIT, "a larger --disk, or a shorter time (--seconds)"
     FEW_FOLLOWED = "pages weren't followed, more than --require allows", Origin.LIMIT, "see what was left out"
     MANY_PAGES = "more than 4096 pages at once, for which a journal has no room", Origin.LIMIT, "record a part of the program"
-    LONG_QUEUE = "more than 500 pages in the queue, for which copies have no room", Origin.LIMIT, SHORT
+    LONG_QUEUE = "more than 2000 pages in the queue, for which copies have no room", Origin.LIMIT, SHORT
     OVERLAP = "scans that overlap: their order isn't known", Origin.LIMIT, FEWER
     BATCHES = "scans of several batches, while pages joined and left the queue", Origin.LIMIT, SHORT
     MISSING = "scans that no copy of the queue shows", Origin.LIMIT, FEWER
@@ -63,7 +63,7 @@ class Omission(Reason):
     UNSEEN_COLLAPSE = "left the queue unseen: perhaps a collapse without a record", Origin.LIMIT, "a long --collapse"
     UNSEEN_SCAN = "left the queue unseen: perhaps a scan that isn't followed", Origin.LIMIT, FEWER
     PERHAPS_TAKEN = "joined at its fault while a scan ran, which perhaps took it", Origin.LIMIT, FEWER
-    MISSED_END = "reached by a call whose end no trace program saw: the kernel left them out", Origin.LIMIT, FEWER
+    MISSED_END = "reached by an mremap whose end no trace program saw: the kernel left them out", Origin.LIMIT, FEWER
     UNKNOWN_JOIN = "queued for no reason seen", Origin.LIMIT, AGAIN
     NOT_QUEUED = "partly mapped, and in no queue at the call's end", Origin.LIMIT, FEWER
     OVERLAPPED = "its place isn't known, since scans overlapped", Origin.LIMIT, FEWER
@@ -86,13 +86,14 @@ class Count(Reason):
     OBSERVED = "joins and tries observed as inferred"
     LEFT_OUT = "runs of the trace programs, at most, that the kernel left out", Origin.LIMIT, FEWER
     UNOBSERVED = "functions' begins and ends that no trace program saw: the kernel left them out", Origin.LIMIT, FEWER
+    PRESUMED = "calls whose end no trace program saw, taken to have succeeded", Origin.LIMIT, FEWER
     CONTRADICTED = "events that observation contradicts", Origin.LIMIT, FEWER
     UNTRIED = "pages put back without a try, as observed: another task held their lock", Origin.KERNEL
     REQUEUED = "pages found in use by a scan, and queued again while it ran, as observed (U)", Origin.KERNEL
     DROPPED = "underused pages dropped since their split failed, as observed (F)", Origin.KERNEL
     SCANS = "scans"
     SCANS_MISSING = "scans that no copy of the queue shows", Origin.LIMIT, FEWER
-    COPIES_MISSING = "copies that have no room for more than 500 pages of the queue", Origin.LIMIT, SHORT
+    COPIES_MISSING = "copies that have no room for more than 2000 pages of the queue", Origin.LIMIT, SHORT
     QUEUES_COMPARED = "queues compared"
     QUEUES_DIFFER = "queues that differ", Origin.KERNEL
     MET_TWICE = "copies of the queue with a page twice, while no scan ran", Origin.KERNEL

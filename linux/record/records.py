@@ -18,7 +18,8 @@ from typing import Callable, Iterator
 from ..common.errors import RunFailed
 from .scratch import FOLDER, ScratchFile
 
-QUEUE_MOST = 500  # pages of a queue that a record carries
+QUEUE_MOST = 2000  # pages of a queue that a record carries
+TORN = (1 << 32) - 1  # instead of their number: the walk of the queue didn't end where it began
 SET = 64  # bytes of a set of subpages
 HEAD = struct.Struct("<16Q")  # kind, time, tid and tgid, mm, nine values, a link, count, a link: struct thp_record
 SIZE = HEAD.size + 8 * QUEUE_MOST
@@ -112,15 +113,15 @@ def parse_record(raw: bytes, place: int = 0) -> Record:
 
 @dataclass(eq=False)
 class Batch:
-    """A batch of a scan, as function tracing observed it: between what times the task took it, when it ended it, and the pages that it
-    tried, in that order, each with the answer of its split (0: it is split) and when that came. `puts_singly`: a page is put back after
-    its try (Linux 7), not at the end."""
+    """A batch of a scan, as function tracing observed it: when the task was asked for it, and when it can have taken it, at the earliest;
+    when it ended it, and the pages that it tried, in that order, each with the answer of its split (0: it is split), and when it was asked
+    and answered. `puts_singly`: a page is put back after its try (Linux 7), not at the end."""
 
     task: int
     asked: int
     begin: int
     end: int
-    tries: dict[int, tuple[int, int]]
+    tries: dict[int, tuple[int, int, int]]
     puts_singly: bool
 
 
@@ -204,13 +205,19 @@ class _Batches:
     def __init__(self) -> None:
         self.found: list[Batch] = []
         self._running: dict[int, Batch] = {}  # by tasks
+        self._until: dict[int, int] = {}  # by folios, until when another batch held the page, or it wasn't in the queue
 
     def see(self, record: Record) -> None:
         """Takes the next record."""
         kind, task, (folio, begin, result, linked, scan, *_) = record.kind, record.task, record.values
         if kind is Kind.TRIED and scan:
-            batch = self._running.setdefault(task, Batch(task, scan, begin, scan, {}, not linked & 1))
-            batch.tries[folio] = result, record.time
+            batch = self._running.setdefault(task, Batch(task, scan, scan, scan, {}, not linked & 1))
+            batch.tries[folio] = result, begin, record.time
+            first = next(iter(batch.tries.values()))[1]
+            batch.begin = max(batch.begin, min(first, self._until.get(folio, 0)))
+            self._until[folio] = record.time
+        elif kind is Kind.QUEUED and linked & 3 == JOINED:
+            self._until[folio] = begin
         elif kind is Kind.BATCH or (kind is Kind.SCANNED and task in self._running):  # the end of the batch wasn't observed
             batch = self._running.pop(task) if task in self._running else Batch(task, begin, begin, begin, {}, False)
             batch.end = record.time

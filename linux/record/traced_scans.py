@@ -150,12 +150,14 @@ class TracedScans(ScanEvents):
     def _divide(self, batch: Batch, pages: list[Page]) -> None:
         """Emits that a batch takes pages, oldest first. Where it puts them back singly, others can take some before it ends: the newest are
         tried first. So each run of pages whose tries are over before the same batch begins is a part: a batch of its own in the journal."""
-        next_ones = takewhile(lambda each: each.begin < batch.end, (self.batches or ()) if batch.puts_singly else ())
-        ends = [*(each.begin for each in next_ones if each.tries), batch.end]
-        over, tried = {}, batch.begin
+        others = [*takewhile(lambda each: each.begin < batch.end, (self.batches or ()) if batch.puts_singly else ())]
+        ends = [*(each.begin for each in others if each.tries), batch.end]
+        latest = dict(zip(batch.tries, [*(begin for _, begin, _ in islice(batch.tries.values(), 1, None)), batch.end]))  # they are back
+        over, tried, back = {}, batch.begin, batch.begin
         for page in reversed(pages):  # one that isn't tried is passed by
-            tried = batch.tries.get(page.folio, (0, tried))[1]
-            over[page] = ends[bisect_left(ends, min(tried, batch.end))]
+            tried, back = batch.tries.get(page.folio, (0, 0, tried))[2], latest.get(page.folio, back)
+            shown = (each.begin for each in others if tried <= each.begin < back and page.folio in each.tries)
+            over[page] = ends[bisect_left(ends, min(next(shown, back), batch.end))]
         journal = self._order_by_journal(pages)
         parts = [(end, [*part]) for end, part in groupby(journal, over.__getitem__)]
         room = CALLERS - 2 - len(self.scans)
@@ -192,12 +194,12 @@ class TracedScans(ScanEvents):
         self._try_batch(key, [page for page in scan.taken if page.is_live], stays)
         self._back += stays
         for page in stays if batch.puts_singly else ():  # others may have come between
-            page.entered = batch.tries.get(page.folio, (1, batch.begin))[1]
+            page.entered = batch.tries.get(page.folio, (1, 0, batch.begin))[2]
             self.queue.remove(page)
             later = [*takewhile(lambda each: each.entered > page.entered, reversed(self.queue))]
             self.queue.insert(len(self.queue) - len(later), page)
 
     def _stays(self, page: Page, batch: Batch) -> bool:
         """Returns whether a batch puts a page back: it is partly mapped, and its split failed, or wasn't observed and gave nothing back."""
-        answer, _ = batch.tries.get(page.folio, (not page.freed_frames, 0))
+        answer = batch.tries.get(page.folio, (not page.freed_frames,))[0]
         return bool(answer) and page.is_partly_mapped and not page.is_freed

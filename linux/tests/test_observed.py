@@ -15,8 +15,8 @@ class ObservedRecords(WrittenRecords):
     def queued(self, task: int, _: Queue, number: int, ago: int = 1) -> None:
         self.add(Kind.QUEUED, [folio_of(number), len(self.records) - ago, 0, JOINED, 1], task=task)
 
-    def tried(self, task: int, _: Queue, number: int, failed: int = 0, began: int = 1) -> None:
-        self.add(Kind.TRIED, [folio_of(number), 0, -11 * failed & WORD, 3, began], task=task)
+    def tried(self, task: int, _: Queue, number: int, failed: int = 0, began: int = 1, asked: int = 0) -> None:
+        self.add(Kind.TRIED, [folio_of(number), asked, -11 * failed & WORD, 3, began], task=task)
 
     def batch(self, task: int, _: Queue, began: int = 1) -> None:
         self.add(Kind.BATCH, [0, began], task=task)
@@ -49,10 +49,20 @@ class ObservedTest(JournalCase):
                 self.assertEqual((builder.tallies[Count.OBSERVED], len(found)), (observed, len(wanted)), found)
                 self.assertTrue(all(map(str.endswith, found, wanted)), found)
 
+    def test_when_a_batch_can_have_been_taken(self) -> None:
+        """Of each: the records, and the begins of batches: as soon as they are asked for, but after the last page's join, and the tries
+        of other batches."""
+        rows = (("look; look; queued 0 2; d:tried 0 1 1 9; d:batch", [1]), ("look; look; look; queued 0; d:tried 0 1 1 9; d:batch", [2]),
+                ("look; look; o:tried 0 1 1; d:tried 0 1 1 9; d:tried 1 1 1 9; d:batch; o:batch", [1, 2]))
+        for records, wanted in rows:
+            with self.subTest(records):
+                store = store_records(ObservedRecords(records).records)
+                self.assertEqual([batch.begin for batch in store.batches or ()], wanted)
+
     def test_recordings_of_kernels(self) -> None:
         """Of each: the order of its pages, the threshold, and how many events are observed as inferred. In the second scans of many threads
         overlap; in the third they also put their pages back singly."""
-        rows = ("traced_6_12", 9, 100, 110), ("overlapping_6_12", 4, None, 568), ("overlapping_7_3", 4, None, 646)
+        rows = ("traced_6_12", 9, 100, 110), ("overlapping_6_12", 4, None, 568), ("overlapping_7_3", 4, None, 648)
         for name, order, threshold, observed in rows:
             with self.subTest(name):
                 store = read_recording(name)

@@ -60,6 +60,9 @@ class RowsTest(JournalCase):
             ("a page joins before the next copy", "divided 2; page 2; d:begin > 0 1; d:end; drop 2 0 8 > 1 0 2",
              "back 1; splitpmd 2; unmapsub 2 0 8 queued -", (), None),
             ("a subpage stays after the split", "divided 1; d:begin > 0; d:free 0 0 7; d:end > -", "", [Omission.HELD_BEYOND_SPLIT], None),
+            ("a call ends unseen before a fault", "page 0; enter 0 0 8; page 1; o:look > 0", f"{PARTLY}; alloc 1", (), None),
+            ("before another call", "page 0; enter 0 0 8; drop 0 8 8 > 0", f"{PARTLY}; unmapsub 0 8 8 stays -", (), None),
+            ("one that moves areas", "page 0; enter 0 0 512 25; page 1", "alloc 0", [Omission.MISSED_END], None),
             ("a page was written", "page 0; look > 0; d:begin > 0; d:free 0 490 22; d:end > -", "", [Omission.WRITTEN], 100),
             ("a page was locked", "page 0; look > 0; d:begin > 0; d:end > 0", "", [Omission.LOCKED], 100),
         ]
@@ -134,7 +137,7 @@ class RecordsTest(unittest.TestCase):
             records.add(kind, [5], given)
             found = parse_record(pack_record(records.records[0]))
             self.assertEqual((found.kind, found.values[0], found.queue), (kind, 5, wanted))
-        self.assertEqual(QUEUE_MOST, 500)
+        self.assertEqual(QUEUE_MOST, 2000)
 
 
 class StoredTest(JournalCase):

@@ -15,7 +15,7 @@ from ..common.program import Program
 from ..record.calls import MADVISE, MUNMAP
 from ..record.journal_builder import JournalBuilder
 from ..record.reasons import PROVED, Count, Omission
-from ..record.records import HEAD, IN_FAULT, QUEUE_MOST, SET, Kind, Record, Store
+from ..record.records import HEAD, IN_FAULT, SET, TORN, Kind, Record, Store
 
 SPACE, TASK, OTHER, DAEMON = 0xA000, 7, 12, 90  # an address space and two of its tasks; one of no group, which scans or collapses
 HUGE, BASE, DONTNEED = 1 << 21, 4096, 4
@@ -84,6 +84,10 @@ class WrittenRecords:
         """A call that unmaps a part of a page."""
         self.call([MADVISE, place_of(number) + BASE * first, BASE * count, DONTNEED], queue, task=task)
 
+    def enter(self, task: int, _: Queue, number: int, first: int, count: int, call: int = MADVISE) -> None:
+        """A call on a part of a page, by default one that unmaps it, whose end isn't recorded."""
+        self.add(Kind.ENTER, [call, place_of(number) + BASE * first, BASE * count, DONTNEED], task=task)
+
     def unmap(self, task: int, queue: Queue, number: int) -> None:
         """A call that unmaps a page and frees it."""
         self.call([MUNMAP, place_of(number), HUGE], queue, 0, task, [folio_of(number)])
@@ -127,7 +131,7 @@ def pack_record(record: Record) -> bytes:
     else:
         queue = record.queue or []
         mark = queue.index(record.foreign) + 1 << 32 if record.foreign else 0
-        rest, count = struct.pack(f"<{len(queue)}Q", *queue), QUEUE_MOST + 1 if record.queue is None else len(queue) | mark
+        rest, count = struct.pack(f"<{len(queue)}Q", *queue), TORN if record.queue is None else len(queue) | mark
     return HEAD.pack(record.kind, record.time, record.task, record.space, *record.values, 0, count, 0) + rest
 
 
