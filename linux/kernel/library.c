@@ -221,8 +221,10 @@ static bool load(struct recorder *recorder, const struct thp_settings *settings,
 	kernel = btf__load_vmlinux_btf();
 	programs = recorder->programs = kernel ? record_bpf__open() : NULL;
 	fits = programs && configure(programs, settings, kernel);
-	if (fits)
+	if (fits) {
+		programs->rodata->is_traced = !recorder->refused;
 		choose_functions(kernel, programs->obj, recorder->refused);
+	}
 	btf__free(kernel);	/* several MiB, and loading has a copy of its own */
 	if (fits && !record_bpf__load(programs) && !record_bpf__attach(programs))
 		recorder->ring = ring_buffer__new(bpf_map__fd(programs->maps.ring), take_one, recorder, NULL);

@@ -6,11 +6,14 @@
 const volatile struct thp_settings settings;
 const volatile __u32 nomemalloc, movable;	/* ___GFP_*: of an enumeration without a name, which CO-RE doesn't find */
 const volatile bool has_collapse_order;		/* an argument of a tracepoint, since Linux 7 */
+const volatile bool is_traced;			/* functions are */
 
 struct thp_counters counters;
 __u32 running_scans;	/* of our queue */
+__u64 copied;		/* when the queue was last */
 
 enum { CHARGED_TO = ~7, SPACES = 8192, HOMES = 65536, TRACKED = 65536, BLOCKS = 4096, RANGE = 32, INNER_LEVELS = 8, TRIES = 3, LARGE = 512 };
+enum { SHORT = 64, SPACING = 1000000 };	/* pages; ns */
 
 /* A call of a function: when it began (0: it has ended, or isn't one of ours), its page, and whether that was in the queue. */
 struct thp_function { __u64 began, folio, was_linked; };
@@ -259,17 +262,23 @@ static long step(__u32 index, struct thp_walk *walk)
 	return 0;
 }
 
-/* Adds a copy of the queue, which is made again where the walk didn't end where it began, and sends the record. */
+/* Adds a copy of the queue, which is made again where the walk didn't end where it began, and sends the record. Where functions are
+ * traced, long queues are copied less often. */
 static __always_inline int add_queue(struct thp_record *record)
 {
 	__u32 numa_node = settings.numa_node < 0 ? 0 : settings.numa_node;
 	struct thp_walk walk = { .record = record, .charge = settings.group };
-	__u64 count = TORN, size;
+	__u64 count = TORN, length = 0, size;
+	int tries = TRIES;
 
-	walk.head = find_queue(settings.queue_lists, settings.group, false, numa_node, 0);
+	walk.head = find_queue(settings.queue_lists, settings.group, false, numa_node, &length);
 	if (!walk.head)
 		count = 0;
-	for (int i = 0; i < TRIES && count == TORN; i++) {
+	if (is_traced && length > SHORT && record->time < copied + SPACING)
+		tries = 0;
+	else
+		copied = record->time;
+	for (int i = 0; i < tries && count == TORN; i++) {
 		walk.at = (__u64)READ(((struct list_head *)walk.head)->next);
 		walk.count = walk.foreign = 0;
 		bpf_loop(QUEUE_MOST + 1, step, &walk, 0);

@@ -76,6 +76,9 @@ class JournalBuilder(TracedScans):
                 self.move_to_end({page})
         elif page not in self.queue:
             self.emit_join(page, [page.folio])
+        elif page.entered < record.values[1] and not (self.scans and self.batches is None):  # it has left meanwhile, or is another page
+            self.omit(page, Omission.UNKNOWN_JOIN)
+            self.dequeue(page)
 
     def _end_last_step(self, record: Record) -> None:
         """Ends what a task's last record has begun: its next record shows that it is over, and a fault or another call that a call is."""

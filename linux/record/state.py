@@ -22,7 +22,7 @@ from .scratch import JournalLine, JournalLines
 MOST_BLOCKS, CALLERS = 4096, 64  # of a journal's node (docs/FORMATS.md)
 FOREVER = 1 << 64
 SPARE_PLACES = 64  # of an address space's former mappings
-SPARE_BLOCKS = 8  # of a journal's node, beyond the pages that lived at once
+SPARE_BLOCKS = 8  # of a journal's node, beyond 5/4 of the pages that lived at once: lines are reordered
 
 
 @dataclass(eq=False)
@@ -138,7 +138,7 @@ class State:
     @property
     def blocks(self) -> int:
         """How many blocks the node needs."""
-        return min(MOST_BLOCKS, self._most + SPARE_BLOCKS)
+        return min(MOST_BLOCKS, self._most * 5 // 4 + SPARE_BLOCKS)
 
     @property
     def fills(self) -> bool:

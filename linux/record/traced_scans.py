@@ -98,7 +98,20 @@ class TracedScans(ScanEvents):
     def begin_batches(self, now: int) -> None:
         """Emits what batches have taken that began until now."""
         while self.batches and self.batches[0].begin <= now:
-            self._begin_batch(self.batches.popleft())
+            batch = self.batches.popleft()
+            before = self._batches_before(batch)
+            if before:
+                batch.begin = self.batches[before - 1].begin
+                self.batches.insert(before, batch)
+            else:
+                self._begin_batch(batch)
+
+    def _batches_before(self, batch: Batch) -> int:
+        """Returns how many of the next batches have begun before this one, if it can be so late: another takes the oldest page."""
+        latest = next((asked for _, asked, _ in batch.tries.values()), 0)
+        oldest = self.queue[0].folio if self.queue else 0
+        others = takewhile(lambda each: each.begin <= latest, islice(self.batches or (), NEXT))
+        return 0 if oldest in batch.tries else next((at + 1 for at, each in enumerate(others) if oldest in each.tries), 0)
 
     def _begin_batch(self, batch: Batch) -> None:
         """Emits what a batch has taken: the oldest pages, and each page that it tried. A partly mapped page is tried, unless another task
