@@ -241,19 +241,23 @@ static __noinline bool is_foreign(__u64 charge)
 	? ((type *)bpf_rdonly_cast(at, bpf_core_type_id_kernel(type)))->field : READ((at)->field))
 
 /* Reads the charge before the link: a page that leaves the queue before its charge doesn't lead to the head. Another group's is read again
- * after it, since a page can come back. A walk ends where it meets the head of a scan's own list, on a stack, below all struct pages. */
+ * after it, since a page can come back. A walk ends where it meets a page that has just left the queue and is linked to itself, or the head
+ * of a scan's own list, on a stack, below all struct pages. */
 static long step(__u32 index, struct thp_walk *walk)
 {
 	struct folio *folio = (void *)(walk->at - link_offset());
 	struct list_head *link = (void *)walk->at;
-	__u64 charge;
+	__u64 charge, next;
 
 	if (walk->at == walk->head || index >= QUEUE_MOST || (__u64)folio < settings.first_page)
 		return 1;
 	walk->record->folios[index] = (__u64)folio;
 	charge = LOAD(struct folio, folio, memcg_data);
 	barrier();
-	walk->at = (__u64)LOAD(struct list_head, link, next);
+	next = (__u64)LOAD(struct list_head, link, next);
+	if (next == walk->at)
+		return 1;
+	walk->at = next;
 	if (charge != walk->charge && !is_foreign(charge))
 		walk->charge = charge;
 	else if (charge != walk->charge && !walk->foreign && is_foreign(READ(folio->memcg_data)))

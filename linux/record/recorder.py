@@ -9,7 +9,7 @@ import os
 import threading
 import time
 from argparse import Namespace
-from contextlib import ExitStack, closing
+from contextlib import ExitStack, closing, contextmanager, suppress
 from dataclasses import dataclass
 from functools import partial
 from typing import Callable, Iterable, Iterator, Sequence
@@ -33,6 +33,19 @@ RING = 1 << 24  # bytes of all rings; all of them count as resident
 QUIET = 3600000  # milliseconds between khugepaged's rounds
 AFTER = 0.05  # seconds for what comes after the commands' end
 MOST_MEMORY = 64  # MiB of one look at contents
+NICEST = -20  # setpriority(2)
+
+
+@contextmanager
+def preferred() -> Iterator[None]:
+    """Prefers this thread to the commands that it has started, which may be many: else it takes records too late, and they are lost."""
+    former = os.getpriority(os.PRIO_PROCESS, 0)
+    with suppress(PermissionError):
+        os.setpriority(os.PRIO_PROCESS, 0, NICEST)
+    try:
+        yield
+    finally:
+        os.setpriority(os.PRIO_PROCESS, 0, former)
 
 
 class Track:
@@ -171,15 +184,16 @@ class Recorder:
             reclaimer.start()
             until, why = time.monotonic() + (self._options.seconds or math.inf), ""
             try:
-                while not why and running.is_running():
-                    time.sleep(PAUSE)
-                    taker.take()
-                    if interrupts.name:
-                        why = f"by {interrupts.name}"
-                    elif time.monotonic() >= until:
-                        why = f"after {self._options.seconds:g} seconds"
-                    elif taker.is_full:
-                        why = "at the limit of --disk"
+                with preferred():
+                    while not why and running.is_running():
+                        time.sleep(PAUSE)
+                        taker.take()
+                        if interrupts.name:
+                            why = f"by {interrupts.name}"
+                        elif time.monotonic() >= until:
+                            why = f"after {self._options.seconds:g} seconds"
+                        elif taker.is_full:
+                            why = "at the limit of --disk"
                 if why:
                     running.end()
             finally:

@@ -103,8 +103,7 @@ def parse_record(raw: bytes, place: int = 0) -> Record:
         if len({*folios}) < count:  # a walk of a list that changes may meet a page again
             twice = next(folio for folio in folios if folios.count(folio) > 1)
         else:
-            queue = [*folios]
-        foreign = folios[mark - 1] if 0 < mark <= count else 0
+            queue, foreign = [*folios], folios[mark - 1] if 0 < mark <= count else 0
     elif kind is Kind.CONTENTS:
         contents = int.from_bytes(raw[at : at + SET], "little"), int.from_bytes(raw[at + SET : at + 2 * SET], "little")
     links = words[13], words[15]

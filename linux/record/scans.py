@@ -3,6 +3,7 @@
 from __future__ import annotations
 
 from dataclasses import dataclass
+from operator import itemgetter
 from typing import Collection, Iterator, Sequence
 
 from ..common.subpages import runs, size
@@ -68,6 +69,7 @@ class ScanEvents(QueueMatcher):
             return
         self.tallies[Count.SCANS] += 1
         self._add_faulted(scan, queue)
+        self._leave_to_others(scan, queue)
         self._emit_frees(scan.pages, queue)
         place = {folio: at for at, folio in enumerate(queue)}
         places = [place[page.folio] for page in scan.pages[: scan.reach] if page and page.is_live and page.folio in place]
@@ -150,17 +152,17 @@ class ScanEvents(QueueMatcher):
 
     def _take_before(self, scan: Scan) -> None:
         """Emits what scans that still run have done before this one took its pages: they took older ones, none of which was in the queue
-        at this scan's start."""
+        at this scan's start. All take their first batches before any takes a second one."""
         queue, older = scan.start.queue or [], self._older(scan.pages[: scan.reach])
-        for other in [*self.scans.values()]:
+        waiting = [(number, other, *each) for other in self.scans.values() for number, each in enumerate(other.batches)]
+        for _, other, first, count in sorted(waiting, key=itemgetter(0)):
+            mine = [page for page in other.pages[first : first + count] if page and page in self.queue]
             has_room = sum(bool(each.taken) for each in self.scans.values()) < CALLERS - 1
-            for first, count in [*other.batches] if has_room else ():
-                mine = [page for page in other.pages[first : first + count] if page and page in self.queue]
-                if not older & {*mine} or any(page in scan.pages for page in mine):
-                    continue
-                if other.batches[0] != (first, count):
-                    self._end_batch(other, [self.at.get(folio) for folio in queue], queue)
-                other.taken = self._take(other.start.task, mine)
+            if not has_room or not older & {*mine} or any(page in scan.pages for page in mine):
+                continue
+            if other.batches[0] != (first, count):
+                self._end_batch(other, [self.at.get(folio) for folio in queue], queue)
+            other.taken = self._take(other.start.task, mine)
 
     def _try_batch(self, task: int, taken: list[Page], stay: list[Page]) -> None:
         """Emits the tries of a batch, and the put-backs: `stay` are the pages put back, in the kernel's order."""
@@ -196,6 +198,14 @@ class ScanEvents(QueueMatcher):
                 page.is_perhaps_taken = True  # by this scan, or by one before
             else:
                 scan.pages.append(page)
+
+    def _leave_to_others(self, scan: Scan, queue: list[int]) -> None:
+        """Takes pages from a scan that has ended which another one that runs has taken: they have left the queue, and this one has freed
+        nothing of them."""
+        others = {page for other in self.scans.values() for page in other.pages[: other.reach]} - {*scan.split, *scan.taken}
+        shown = {*queue}
+        scan.pages = [page for page in scan.pages if page is None or page not in others or page.folio in shown or page.is_freed
+                      or not page.is_partly_mapped]
 
     def _emit_frees(self, pages: list[Page | None], queue: list[int]) -> None:
         """Emits the frees of pages during a scan that no event shows yet: a running call freed the page, or a process that is ending."""
