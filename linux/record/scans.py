@@ -153,7 +153,7 @@ class ScanEvents(QueueMatcher):
     def _take_before(self, scan: Scan) -> None:
         """Emits what scans that still run have done before this one took its pages: they took older ones, none of which was in the queue
         at this scan's start. All take their first batches before any takes a second one."""
-        queue, older = scan.start.queue or [], self._older(scan.pages[: scan.reach])
+        queue, older = scan.start.queue or [], self._older([*scan.pages[: scan.reach], *scan.split])
         waiting = [(number, other, *each) for other in self.scans.values() for number, each in enumerate(other.batches)]
         for _, other, first, count in sorted(waiting, key=itemgetter(0)):
             mine = [page for page in other.pages[first : first + count] if page and page in self.queue]
