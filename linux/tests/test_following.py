@@ -158,7 +158,6 @@ class LongScansTest(JournalCase):
         self.check("page 0; page 1; drop 0 0 8 > 0 1; d:begin > 0 1; look > -; page 2; drop 1 0 8 > 0 2 1; d:end > 0 2 1; look > 0 2 1",
                    "back 0; alloc 1", Omission.REQUEUED, threshold=100)
 
-
     def test_what_another_that_runs_has_taken(self) -> None:
         """Both begin with the same queue, and the first to end has taken a page that joined meanwhile."""
         self.check(f"{self.begun}; o:begin 3 2 > 0 1; drop 2 0 8 > 2; o:free 2 0 8; o:end > -; d:free 0 0 8; d:free 1 0 8; d:end > -",
@@ -166,9 +165,10 @@ class LongScansTest(JournalCase):
 
     def test_all_take_their_first_batches_before_any_takes_a_second_one(self) -> None:
         """The first takes 128 of 130 pages, the next one the rest, and a third one a page that joins later."""
-        frees = ["; ".join(f"{task}free {page} 0 8" for page in pages) for task, pages in (("d:", range(128)), ("o:", (128, 129)))]
-        self.check("divided 130; d:begin 256 130 > " + " ".join(map(str, range(130))) + "; o:begin 2 2 > 128 129; page 130; "
-                   f"drop 130 0 8 > 130; begin 1 1 > 130; free 130 0 8; end > -; {frees[1]}; o:end > -; {frees[0]}; d:end > -", "split 127 0-7")
+        pages = " ".join(map(str, range(130)))
+        frees = ["; ".join(f"{task}free {page} 0 8" for page in part) for task, part in (("d:", range(128)), ("o:", (128, 129)))]
+        self.check(f"divided 130; d:begin 256 130 > {pages}; o:begin 2 2 > 128 129; page 130; drop 130 0 8 > 130; begin 1 1 > 130; "
+                   f"free 130 0 8; end > -; {frees[1]}; o:end > -; {frees[0]}; d:end > -", "split 127 0-7")
 
 
 class EndsTest(JournalCase):
