@@ -1,8 +1,9 @@
 """What the records prove of the kernel by themselves, whatever the journal infers. A walk of the queue takes no lock and a while; a page
 that is freed or made meanwhile may be met at any place.
 
-The order of two copies proves something where each scan that ran since the first was begun had taken its pages before: it takes them in one
-step, before it frees a frame of one of them. Then the pages that both copies show have stayed in their order, and all others follow them.
+The order of two copies proves something where the first was complete before the second was begun, and each scan that ran since the first was
+begun had taken its pages before: it takes them in one step, before it frees a frame of one of them. Then the pages that both copies show
+have stayed in their order, and all others follow them. A copy is complete when the next record without one is made.
 """
 
 from __future__ import annotations
@@ -11,7 +12,7 @@ from dataclasses import dataclass, field
 from typing import AbstractSet
 
 from .reasons import Count
-from .records import Kind, Record
+from .records import WITH_QUEUE, Kind, Record
 from .scans import batches_of
 from .state import State
 
@@ -43,6 +44,7 @@ class QueueLaws:
         self._free: dict[int, int] = {}  # of those, when pages were freed that weren't made since
         self._last: list[int] = []  # the last copy
         self._begun = 0  # and when that was
+        self._over = 0  # by when it was complete
 
     def see(self, record: Record) -> None:
         """Takes the next record."""
@@ -58,6 +60,8 @@ class QueueLaws:
             if freed:
                 self._tallies[Count.QUEUED_FREE] += sum(each < time < each + SOON for each in freed)
             self._compare(record.queue, time)
+        elif kind not in WITH_QUEUE:
+            self._over = self._over or time
         if kind is Kind.TRIED and record.task in self._running:
             scan = self._running[record.task]
             scan.taken = scan.taken or record.values[1]
@@ -90,9 +94,11 @@ class QueueLaws:
             scan.taken = scan.taken or record.time
 
     def _compare(self, queue: list[int], begun: int) -> None:
-        """Compares a copy with the last one."""
-        last, since, changed = self._last, min(self._begun, begun), self._changed
-        self._last, self._begun = queue, begun
+        """Compares a copy with the last one, if that was complete before."""
+        last, since, changed = self._last, self._begun, self._changed
+        if last and not 0 < self._over <= begun:
+            return
+        self._last, self._begun, self._over = queue, begun, 0
         if queue[: len(last)] == last or self._settled >= since:
             return
         if all(scan.takes_once and 0 < scan.taken < since for scan in self._running.values()):
