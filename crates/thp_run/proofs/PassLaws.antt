@@ -8,7 +8,10 @@ use Rattle.thp_cell.specs.declared.fault.CellFault.{CellFault}
 use Rattle.thp_cell.specs.declared.fault.CellFault.TheVariants.{Busy, Refused}
 use Rattle.thp_cell.specs.Prelude.{at_front, PassState}
 use Rattle.thp_cell.specs.Views as cell
-use Rattle.thp_worker.specs.Prelude.{Step, Reply, Open, Reaction, Fronts, Moves, Answered, OutOf, IsStepBusy, StepDone, Goes, Held, Acts, HeldAnswered, HeldOutOf, HeldDone, Passes, batch_of, cell_in, shape_in, front_in, batch_in, fronts_in, fronts_of, IsOf, Agree}
+use Rattle.thp_worker.specs.declared.reply.Reply.{Reply}
+use Rattle.thp_worker.specs.declared.steps.Step.{Step}
+use Rattle.thp_worker.specs.Prelude.{Open, Reaction, Fronts, Moves, Answered, OutOf, IsStepBusy, StepDone, Goes, Held, Acts, HeldAnswered, HeldOutOf, HeldDone, batch_of}
+use Rattle.thp_run.specs.Passes.{Passes, cell_in, shape_in, front_in, batch_in, fronts_in, fronts_of, IsOf, Agree}
 use Rattle.thp_worker.proofs.HoldingLaws.{slice_get-set_same, slice_get-set_other, set_same, length-set_same}
 use Rattle.thp_worker.proofs.StepLaws.{goes_refl, moves_goes}
 
