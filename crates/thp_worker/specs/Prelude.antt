@@ -4,7 +4,7 @@ unfoldable pub use Rattle.thp_worker.specs.Does.{Does}
 pub use Rattle.thp_worker.specs.Fronts.{Answered, Fronts, Goes, Grows, HoldsAllCallers, HoldsCaller, IsOfOthers, IsStepBusy, Moves, OutOf, SameHolding, SameNodes, StepDone}
 pub use Rattle.thp_worker.specs.Halves.{AreCommandsFor, AreFrontsJoined, AreFrontsSplit, CanJoin, CanRun, KnowsOf, RangeDone}
 unfoldable pub use Rattle.thp_worker.specs.Halves.{AllWork}
-pub use Rattle.thp_worker.specs.Holdings.{Acts, Held, HeldAnswered, HeldDone, HeldOutOf, IsHolding, IsShut, KeepsNode, OpenStay, batch_of, keeping_node, loss_reply, lower_part, open_in, page_reply, unit_reply, upper_part}
+pub use Rattle.thp_worker.specs.Holdings.{Acts, Held, HeldAnswered, HeldDone, HeldOutOf, IsHeldBusy, IsHolding, IsShut, KeepsNode, LocksOnce, OpenStay, batch_of, keeping_node, loss_reply, lower_part, open_in, page_reply, unit_reply, upper_part}
 pub use Rattle.thp_worker.specs.InParts.{DidFirst}
 pub use Rattle.thp_worker.specs.Kept.{IsLog, answer_in, answers_in, is_there, reaction_in}
 pub use Rattle.thp_worker.specs.Logs.{LogState, if_kept, stored}
