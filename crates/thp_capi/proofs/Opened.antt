@@ -35,8 +35,8 @@ continues p q same = same ∙ (λ i. record p { front = q.front; locks = (sym sa
 -- and after a call that failed only the front and the lock steps changed
 failed_continues : (p q : PassState) (why : Option Refusal) (k : ℕ) (f : CellFault) → Failed p q why k f → q ≡ continuing p q
 failed_continues p q why k fault.Busy busy = subst (λ (x : PassState). x ≡ continuing p x) (sym busy.same) refl
-failed_continues p q why k (fault.Refused r) no =
-    let same = no.follows.same in
+failed_continues p q why k (fault.Refused r) refused =
+    let same = refused.follows.same in
     same ∙ (λ i. record p { front = q.front; locks = (sym same i).locks; misses = (sym same i).misses })
 
 -- nor does a call that failed move one
