@@ -1,6 +1,6 @@
 //! Passes of all nodes, with the open batches of their callers.
-ghost use Rattle.std.specs.Prelude.{◌≡◌, ◌<◌, All, IfOk, map};
-ghost use Rattle.thp_worker.specs.Prelude.{HoldsAllCallers, keeping_node};
+ghost use Rattle.std.specs.Prelude.{◌≡◌, ◌<◌, All, IfOk, Some, map, slice_get};
+ghost use Rattle.thp_worker.specs.Prelude.{Goes, Held, HeldDone, HoldsAllCallers, HoldsCaller, IsStep, StepDone, answer_of, keeping_node};
 ghost use Rattle.thp_run.specs.Passes.{Agree, IsOfAll, fronts_in};
 
 use std::alloc::{AllocError, Global};
@@ -49,7 +49,15 @@ impl<'a, R: Recorder> Steps for NodePasses<'a, R> {
         node: u32,
         step: Step,
         reply: &mut Reply,
-    ) -> Result<(), CellFault> {
+    ) -> Result<(), CellFault>
+        requires caller { HoldsCaller (fronts_in self.old) caller }
+        requires node { node < (fronts_in self.old).nodes }
+        requires step { IsStep step }
+        ensures goes { Goes caller (fronts_in self.old) (fronts_in self.new) }
+        ensures done { StepDone caller node step (fronts_in self.old) (fronts_in self.new) (answer_of result reply.new) }
+        // it is `Busy` only if a lock step on the node missed
+        ensures held { (old new : Held) → slice_get self.old.held node ≡ Some old → slice_get self.new.held node ≡ Some new → HeldDone caller step old new (answer_of result reply.new) }
+    {
         self.nodes[node as usize].step(caller, step, reply)
     }
 }
