@@ -224,7 +224,7 @@ static __always_inline __u64 block_of(__u64 page)
 }
 
 /* Clears the bits of an allocation's frames, as far as they are in the block of its first. Returns whether that block is tracked. */
-__noinline bool forget_frees(__u64 page, __u32 order)
+static __noinline bool forget_frees(__u64 page, __u32 order)
 {
 	__u64 block = block_of(page), first = (page - block) / bpf_core_type_size(struct page) % LARGE;
 	struct thp_seen *seen = bpf_map_lookup_elem(&tracked, &block);

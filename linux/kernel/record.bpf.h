@@ -229,7 +229,7 @@ struct thp_walk { struct thp_record *record; __u64 head, at, charge; __u32 count
  * Whether a page of the queue is another group's, by its memcg_data. Linux 7 moves the pages of a group that is removed to its parent's
  * queue before their charge.
  */
-__noinline bool is_foreign(__u64 charge)
+static __noinline bool is_foreign(__u64 charge)
 {
 	__u64 group = charged_group(charge);
 
