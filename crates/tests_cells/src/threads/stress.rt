@@ -285,9 +285,9 @@ fn split_in_four(cell: &NodeCell, pass: Pass) -> ((Pass, Pass), (Pass, Pass))
     requires all { HasAll pass }
     requires four { pass.callers ≡ 4 }
     ensures first { result.0.0 ≡ record pass { first = 0; end = 1; keeps = false } }
-    ensures second { result.0.1 ≡ record pass { first = 1; end = 2; keeps = false } }
-    ensures third { result.1.0 ≡ record pass { first = 2; end = 3; keeps = false } }
-    ensures fourth { result.1.1 ≡ record pass { first = 3; end = 4; keeps = false } }
+    ensures second { result.0.1 ≡ record pass { first = 1; end = 2; keeps = false; locks = 0; misses = 0 } }
+    ensures third { result.1.0 ≡ record pass { first = 2; end = 3; keeps = false; locks = 0; misses = 0 } }
+    ensures fourth { result.1.1 ≡ record pass { first = 3; end = 4; keeps = false; locks = 0; misses = 0 } }
 {
     let (low, high) = cell.split(pass, 2);
     (cell.split(low, 1), cell.split(high, 3))
