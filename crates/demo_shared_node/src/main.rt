@@ -7,7 +7,7 @@
 #![tactic(auto)]
 
 ghost use Rattle.std.specs.Prelude.{◌≡◌, []};
-ghost use Rattle.thp_cell.specs.Prelude.{at_front, HasCaller};
+ghost use Rattle.thp_cell.specs.Prelude.{continuing, HasCaller};
 
 use anyhow::{Context, Result};
 use std::thread::{self, Threads};
@@ -84,7 +84,7 @@ fn used_by_two<R: Threads + AllocGlobal>(rt: &R, node: Node) -> Option<Node>
 fn use_pages(cell: &NodeCell, pass: Pass, caller: u32) -> Pass
     requires cell { pass.cell ≡ cell.now }
     requires caller { HasCaller pass caller }
-    ensures { result ≡ at_front pass result.front }
+    ensures { result ≡ continuing pass result }
 {
     let mut pass = pass;
     for _ in 0..PAGES {
@@ -99,7 +99,7 @@ fn use_pages(cell: &NodeCell, pass: Pass, caller: u32) -> Pass
 fn allocate(cell: &NodeCell, pass: &mut Pass, caller: u32) -> Option<PageId>
     requires cell { pass.old.cell ≡ cell.now }
     requires caller { HasCaller pass.old caller }
-    ensures { pass.new ≡ at_front pass.old pass.new.front }
+    ensures { pass.new ≡ continuing pass.old pass.new }
 {
     for _ in 0..TRIES {
         match cell.alloc_page(pass, caller) {
@@ -115,7 +115,7 @@ fn allocate(cell: &NodeCell, pass: &mut Pass, caller: u32) -> Option<PageId>
 fn unmap_half(cell: &NodeCell, pass: &mut Pass, caller: u32, page: PageId)
     requires cell { pass.old.cell ≡ cell.now }
     requires caller { HasCaller pass.old caller }
-    ensures { pass.new ≡ at_front pass.old pass.new.front }
+    ensures { pass.new ≡ continuing pass.old pass.new }
 {
     for _ in 0..TRIES {
         if cell.split_pmd(pass, caller, page) != Err(CellFault::Busy) {

@@ -1,6 +1,6 @@
 //! Worked rows on a shared node, with results known beforehand.
 ghost use Rattle.std.specs.Prelude.{◌≡◌};
-ghost use Rattle.thp_cell.specs.Prelude.{HasCaller, at_front, returning_node};
+ghost use Rattle.thp_cell.specs.Prelude.{HasCaller, continuing, missing, returning_node};
 ghost use Rattle.tests_cells.specs.Passes.{Stays};
 
 use crate::equal::expect_equal;
@@ -17,7 +17,7 @@ use thp_node::{NewFault, Node};
 // Takes the node for a hold, which nobody has.
 fn hold_node(rt: &impl Abort, cell: &NodeCell, pass: Pass) -> Hold
     requires { pass.cell ≡ cell.now }
-    ensures { result ≡ at_front (returning_node pass) result.front }
+    ensures { result ≡ continuing (returning_node pass) result }
 {
     match cell.hold(pass) {
         Ok(hold) => hold,
@@ -28,7 +28,7 @@ fn hold_node(rt: &impl Abort, cell: &NodeCell, pass: Pass) -> Hold
 // A pass whose hold is refused, since another has the node.
 fn refused_hold(rt: &impl Abort, cell: &NodeCell, pass: Pass) -> Pass
     requires { pass.cell ≡ cell.now }
-    ensures { result ≡ returning_node pass }
+    ensures { result ≡ missing (returning_node pass) }
 {
     match cell.hold(pass) {
         Ok(_) => panic!(rt; "two holds"),
@@ -163,12 +163,24 @@ fn fault_of(rt: &impl Abort, alloc: Global, callers: u32) -> Option<NewFault> {
     }
 }
 
+// The same over a node on which one of three callers has allocated a page.
+fn fault_of_used(rt: &impl Abort, alloc: Global) -> Option<NewFault> {
+    let (cell, pass) = cell_of(rt, alloc, 16, 3);
+    let mut pass = pass;
+    expect_steps(rt, &cell, &mut pass, 2, ALLOCATED);
+    match NodeCell::new(alloc, cell.finish(pass), 3) {
+        Ok(_) => None,
+        Err(fault) => Some(fault),
+    }
+}
+
 #[test]
 fn limits_and_constructors(rt: HostRuntime) {
     expect_equal(&rt, fault_of(&rt, rt.alloc(), 0), Some(NewFault::BadSize));
     expect_equal(&rt, fault_of(&rt, rt.alloc(), 1), None);
     expect_equal(&rt, fault_of(&rt, rt.alloc(), 64), None);
     expect_equal(&rt, fault_of(&rt, rt.alloc(), 65), Some(NewFault::BadSize));
+    expect_equal(&rt, fault_of_used(&rt, rt.alloc()), None);
 }
 
 const BAD_RANGE: Answer = Answer::Refused(Refusal::BadRange);

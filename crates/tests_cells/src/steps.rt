@@ -1,7 +1,7 @@
 //! Rows as tables of steps: calls through passes of a shared node, each with its result.
 ghost use Rattle.std.specs.Prelude.{◌≡◌, ◌<◌, IfSome};
 ghost use Rattle.thp_node.specs.Prelude.{IsInFront};
-ghost use Rattle.thp_cell.specs.Prelude.{HasCaller, HasAll, at_front, BatchesStay};
+ghost use Rattle.thp_cell.specs.Prelude.{HasCaller, HasAll, continuing, BatchesStay};
 ghost use Rattle.tests_cells.specs.Passes.{Stays};
 
 use std::alloc::Global;
@@ -106,7 +106,7 @@ fn outcome_of(reply: Result<Done, CellFault>) -> Option<Answer> {
 fn answer_of(cell: &NodeCell, pass: &mut Pass, caller: u32, call: Call) -> Option<Answer>
     requires cell { pass.old.cell ≡ cell.now }
     requires caller { HasCaller pass.old caller }
-    ensures same { pass.new ≡ at_front pass.old pass.new.front }
+    ensures same { pass.new ≡ continuing pass.old pass.new }
     ensures batches { BatchesStay pass.old pass.new }
 {
     match call {
@@ -142,7 +142,7 @@ fn is_answered(
 ) -> bool
     requires cell { pass.old.cell ≡ cell.now }
     requires caller { HasCaller pass.old caller }
-    ensures same { pass.new ≡ at_front pass.old pass.new.front }
+    ensures same { pass.new ≡ continuing pass.old pass.new }
     ensures batches { BatchesStay pass.old pass.new }
 {
     answer_of(cell, pass, caller, call) == want
@@ -152,7 +152,7 @@ fn is_answered(
 fn is_queued(cell: &NodeCell, pass: &mut Pass, caller: u32, page: u64) -> bool
     requires cell { pass.old.cell ≡ cell.now }
     requires caller { HasCaller pass.old caller }
-    ensures same { pass.new ≡ at_front pass.old pass.new.front }
+    ensures same { pass.new ≡ continuing pass.old pass.new }
 {
     let allocated = answer_of(cell, pass, caller, Call::Alloc);
     let divided = answer_of(cell, pass, caller, Call::SplitPmd(page));
@@ -192,7 +192,7 @@ fn is_scanned(
 ) -> bool
     requires cell { pass.old.cell ≡ cell.now }
     requires caller { HasCaller pass.old caller }
-    ensures same { pass.new ≡ at_front pass.old pass.new.front }
+    ensures same { pass.new ≡ continuing pass.old pass.new }
     ensures batches { BatchesStay pass.old pass.new }
 {
     if n > 128 {
@@ -203,7 +203,7 @@ fn is_scanned(
 
 fn is_count(cell: &NodeCell, pass: &mut Pass, pages: u32) -> bool
     requires { pass.old.cell ≡ cell.now }
-    ensures same { pass.new ≡ at_front pass.old pass.new.front }
+    ensures same { pass.new ≡ continuing pass.old pass.new }
     ensures batches { BatchesStay pass.old pass.new }
 {
     cell.count(pass) == pages
@@ -224,7 +224,7 @@ fn taken(
 ) -> (bool, Option<Batch>)
     requires cell { pass.old.cell ≡ cell.now }
     requires caller { HasCaller pass.old caller }
-    ensures same { pass.new ≡ at_front pass.old pass.new.front }
+    ensures same { pass.new ≡ continuing pass.old pass.new }
     ensures own { IfSome result.1 (λ b. b.caller ≡ caller) }
     ensures front { IfSome result.1 (IsInFront pass.new.front) }
 {
@@ -241,7 +241,7 @@ fn tried(cell: &NodeCell, pass: &mut Pass, batch: Batch, want: Tried) -> (bool, 
     requires cell { pass.old.cell ≡ cell.now }
     requires caller { HasCaller pass.old batch.caller }
     requires front { IsInFront pass.old.front batch }
-    ensures same { pass.new ≡ at_front pass.old pass.new.front }
+    ensures same { pass.new ≡ continuing pass.old pass.new }
     ensures own { IfSome result.1 (λ b. b.caller ≡ batch.caller) }
     ensures front { IfSome result.1 (IsInFront pass.new.front) }
 {
@@ -254,7 +254,7 @@ fn is_returned(cell: &NodeCell, pass: &mut Pass, batch: Batch, back: u32) -> boo
     requires cell { pass.old.cell ≡ cell.now }
     requires caller { HasCaller pass.old batch.caller }
     requires front { IsInFront pass.old.front batch }
-    ensures { pass.new ≡ at_front pass.old pass.new.front }
+    ensures { pass.new ≡ continuing pass.old pass.new }
 {
     match cell.put_back(pass, batch) {
         Ok(reply) => reply == BackReply { back, dropped: 0 },
@@ -266,7 +266,7 @@ fn is_returned(cell: &NodeCell, pass: &mut Pass, batch: Batch, back: u32) -> boo
 fn is_not_taken(cell: &NodeCell, pass: &mut Pass, caller: u32) -> bool
     requires cell { pass.old.cell ≡ cell.now }
     requires caller { HasCaller pass.old caller }
-    ensures { pass.new ≡ at_front pass.old pass.new.front }
+    ensures { pass.new ≡ continuing pass.old pass.new }
 {
     match cell.take(pass, caller, 8) {
         Ok(_) => false,
@@ -318,7 +318,7 @@ fn made_with(cell: &NodeCell, pass: &mut Pass, batch: Batch, step: Step) -> (boo
     requires cell { pass.old.cell ≡ cell.now }
     requires caller { HasCaller pass.old batch.caller }
     requires front { IsInFront pass.old.front batch }
-    ensures same { pass.new ≡ at_front pass.old pass.new.front }
+    ensures same { pass.new ≡ continuing pass.old pass.new }
     ensures own { IfSome result.1 (λ b. b.caller ≡ batch.caller) }
     ensures front { IfSome result.1 (IsInFront pass.new.front) }
 {

@@ -1,5 +1,5 @@
--- What is done on nodes that count as shared is done on the nodes.
-use Rattle.std.proofs.Common.{◌≡◌, ℕ, ap, arith, inl, inr, Bool, List, [], Option, Some, None, Result, Ok, Err, refl}
+-- What is done on nodes that count as shared is done on the nodes; a step on one node is a step of a holder of all nodes.
+use Rattle.std.proofs.Common.{◌≡◌, ◌<◌, ℕ, zero, suc, ap, arith, inl, inr, Bool, List, [], ◌∷◌, length, subst, slice_get, Option, Some, None, Result, Ok, Err, refl}
 use Rattle.thp_history.specs.declared.events.Event.{Event}
 use Rattle.thp_history.specs.declared.refusal.Refusal.TheVariants.{OutOfMemory}
 use Rattle.thp_cell.specs.declared.fault.CellFault.{CellFault}
@@ -11,8 +11,10 @@ use Rattle.thp_worker.specs.declared.reply.Rest.{Rest}
 use Rattle.thp_run.specs.Listed.{WorkedList, WorksOn}
 use Rattle.thp_worker.specs.declared.command.CommandProgress.{CommandProgress}
 use Rattle.thp_worker.specs.declared.steps.Step.{Step}
-use Rattle.thp_worker.specs.Prelude.{Open, Reaction, Fronts, SameHolding, Moves, Answered, OutOf, IsStepBusy, StepDone, Goes, Grows, Made, Steps, Begins, Ends, WorksTo}
-use Rattle.tests_runs.specs.Sharing.{shared, WasWorked}
+use Rattle.thp_worker.specs.Prelude.{Open, Reaction, Fronts, Held, HeldDone, SameHolding, Moves, Answered, OutOf, IsStepBusy, StepDone, Goes, Grows, Made, Steps, Begins, Ends, WorksTo}
+use Rattle.thp_run.specs.Passes.{Agree, IsOf, Passes, fronts_in}
+use Rattle.thp_run.proofs.PassLaws.{step_made}
+use Rattle.tests_runs.specs.Sharing.{of_two, shared, WasWorked}
 
 module _ (old new : Fronts) where
   same_shared : SameHolding old new → SameHolding (shared old) (shared new)
@@ -105,3 +107,21 @@ module _ (old new : Fronts) (c : ℕ) where
 
   pub works_inside : (commands : List Command) (w : WorkedList) → WorksOn c old (shared new) commands w → WasWorked c new commands w
   works_inside commands w k = (before, record { shut = k.shut; opened = k.opened; works = to_inside commands w.answers k.opened w.rest k.works })
+
+-- ---- one node
+
+agree_alone : (h : Held) → IsOf 2 0 2 h → Agree 2 0 2 (h ∷ [])
+agree_alone h of = record { few = omega arith; each = λ n k at. each n k at } where
+  same : (a b : Held) → Some a ≡ Some b → a ≡ b
+  same a b e = cc
+
+  each : (n : ℕ) (k : Held) → slice_get (h ∷ []) n ≡ Some k → IsOf 2 0 2 k
+  each zero k at = subst (IsOf 2 0 2) (same h k at) of
+  each (suc n) k at = absurd (cc)
+
+pub step_alone : (p : Passes) (c n : ℕ) (step : Step) (old new : Held) (r : Result Reply CellFault) → p ≡ of_two old → IsOf 2 0 2 old → n < length p.held → HeldDone c step old new r →
+    IsOf 2 0 2 new × StepDone c n step (fronts_in p) (fronts_in (of_two new)) r × Goes c (fronts_in p) (fronts_in (of_two new))
+step_alone p c zero step old new r view of lt done =
+    let made = step_made {callers = 2} {first = 0} {end = 2} {held = old ∷ []} {h = p} c 0 step old new r view (agree_alone old of) lt refl done in
+    (made.0.each 0 new refl, made.1, made.2)
+step_alone p c (suc n) step old new r view of lt done = absurd (let count : length p.held ≡ 1 = ap (λ (q : Passes). length q.held) view in omega (arith, lt, count))

@@ -1,6 +1,6 @@
 //! A shared node.
 ghost use Rattle.std.specs.Prelude.{◌≡◌};
-ghost use Rattle.thp_cell.specs.Prelude.{at_front, returning_node, HasAll, HasCaller};
+ghost use Rattle.thp_cell.specs.Prelude.{continuing, returning_node, HasAll, HasCaller};
 
 use crate::equal::expect_equal;
 use crate::sets::SMALL;
@@ -24,7 +24,7 @@ fn cell_of(rt: &impl Abort, alloc: Global) -> (NodeCell, Pass)
 fn used(cell: &NodeCell, pass: &mut Pass) -> Result<PageId, CellFault>
     requires cell { pass.old.cell ≡ cell.now }
     requires caller { HasCaller pass.old 1 }
-    ensures { pass.new ≡ at_front pass.old pass.new.front }
+    ensures { pass.new ≡ continuing pass.old pass.new }
 {
     let page = cell.alloc_page(pass, 1)?;
     cell.map_whole(pass, 1, page)?;
@@ -38,7 +38,7 @@ fn used(cell: &NodeCell, pass: &mut Pass) -> Result<PageId, CellFault>
 fn unmapped(cell: &NodeCell, pass: &mut Pass, page: PageId) -> Result<Done, CellFault>
     requires cell { pass.old.cell ≡ cell.now }
     requires caller { HasCaller pass.old 1 }
-    ensures { pass.new ≡ at_front pass.old pass.new.front }
+    ensures { pass.new ≡ continuing pass.old pass.new }
 {
     cell.split_pmd(pass, 1, page)?;
     cell.map_sub(pass, 1, page, 3, 1)?;
@@ -51,7 +51,7 @@ fn unmapped(cell: &NodeCell, pass: &mut Pass, page: PageId) -> Result<Done, Cell
 fn tried(cell: &NodeCell, pass: &mut Pass) -> Result<Tried, CellFault>
     requires cell { pass.old.cell ≡ cell.now }
     requires caller { HasCaller pass.old 1 }
-    ensures { pass.new ≡ at_front pass.old pass.new.front }
+    ensures { pass.new ≡ continuing pass.old pass.new }
 {
     let mut batch = cell.take(pass, 1, 8)?;
     let tried = cell.split_next(pass, &mut batch)?;
@@ -68,7 +68,7 @@ fn tried(cell: &NodeCell, pass: &mut Pass) -> Result<Tried, CellFault>
 fn closed(cell: &NodeCell, pass: &mut Pass) -> Result<(), CellFault>
     requires cell { pass.old.cell ≡ cell.now }
     requires caller { HasCaller pass.old 1 }
-    ensures { pass.new ≡ at_front pass.old pass.new.front }
+    ensures { pass.new ≡ continuing pass.old pass.new }
 {
     let _scanned = cell.scan(pass, 1, 128)?;
     cell.close(pass, 1)
@@ -78,7 +78,7 @@ fn closed(cell: &NodeCell, pass: &mut Pass) -> Result<(), CellFault>
 fn called(cell: &NodeCell, pass: &mut Pass) -> Result<(PageId, u32, Tried), CellFault>
     requires cell { pass.old.cell ≡ cell.now }
     requires caller { HasCaller pass.old 1 }
-    ensures { pass.new ≡ at_front pass.old pass.new.front }
+    ensures { pass.new ≡ continuing pass.old pass.new }
 {
     let page = used(cell, pass)?;
     unmapped(cell, pass, page)?;
@@ -91,7 +91,7 @@ fn called(cell: &NodeCell, pass: &mut Pass) -> Result<(PageId, u32, Tried), Cell
 // The node is held, and released.
 fn held(cell: &NodeCell, pass: Pass) -> Pass
     requires { pass.cell ≡ cell.now }
-    ensures { result ≡ at_front (returning_node pass) result.front }
+    ensures { result ≡ continuing (returning_node pass) result }
 {
     match cell.hold(pass) {
         Ok(hold) => let_go(cell, hold),
@@ -101,7 +101,7 @@ fn held(cell: &NodeCell, pass: Pass) -> Pass
 
 fn let_go(cell: &NodeCell, hold: Hold) -> Pass
     requires { hold.cell ≡ cell.now }
-    ensures { result ≡ at_front hold result.front }
+    ensures { result ≡ continuing hold result }
 {
     cell.release(hold)
 }
@@ -110,7 +110,7 @@ fn let_go(cell: &NodeCell, hold: Hold) -> Pass
 fn expect_calls(rt: &impl Abort, cell: &NodeCell, pass: &mut Pass)
     requires cell { pass.old.cell ≡ cell.now }
     requires caller { HasCaller pass.old 1 }
-    ensures { pass.new ≡ at_front pass.old pass.new.front }
+    ensures { pass.new ≡ continuing pass.old pass.new }
 {
     let reported = called(cell, pass);
     expect_equal(rt, reported, Ok((PageId(0), 1, Tried::Split(PageId(0)))));

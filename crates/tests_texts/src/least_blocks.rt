@@ -131,18 +131,18 @@ fn pages_of_no_legal_history(rt: HostRuntime) {
         Row::Gets(0, 0),
         Row::Frees(0),
         Row::Gets(0, 0),
-        Row::Gets(1, 0),
+        Row::Gets(1, 1),
         Row::Frees(0),
-        Row::Gets(2, 1),
+        Row::Gets(2, 0),
     ];
     expect_rows(&rt, alloc, 8, "freed, then allocated", &again);
     let early = [
         Row::Frees(1),
         Row::Gets(0, 0),
         Row::Gets(1, 1),
-        Row::Gets(2, 1),
+        Row::Gets(2, 2),
         Row::Frees(1),
-        Row::Gets(3, 2),
+        Row::Gets(3, 1),
     ];
     expect_rows(&rt, alloc, 8, "freed before it is allocated", &early);
     let large = [

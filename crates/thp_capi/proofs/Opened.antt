@@ -5,7 +5,7 @@ use Rattle.std.proofs.lemmas.List.{length-take, length-set, get_or-take, get_or-
 use Rattle.atomic_table.specs.Seated.{TableId}
 use Rattle.thp_node.specs.Prelude.{BatchState, IsInFront, rest}
 use Rattle.thp_history.specs.Prelude.{put_back_events, refusal, split_next_events, take as take_call, take_events}
-use Rattle.thp_cell.specs.Prelude.{at_front, BatchesStay, OtherBatchesStay, Called, Failed, IsJoined, below, from, DidPutBack, DidTake, DidTry, PassState, HasCaller}
+use Rattle.thp_cell.specs.Prelude.{at_front, continuing, BatchesStay, OtherBatchesStay, Called, Failed, IsJoined, below, from, DidPutBack, DidTake, DidTry, PassState, HasCaller}
 use Rattle.thp_history.specs.declared.refusal.Refusal.{Refusal}
 use Rattle.thp_cell.specs.declared.fault.CellFault.{CellFault}
 use Rattle.thp_cell.specs.declared.fault.CellFault.TheVariants as fault
@@ -25,26 +25,37 @@ use Rattle.thp_capi.proofs.Places.{Batches, IsFor, each_set, for_none, for_some,
 pub own_at : (t : TableId) (n m : ℕ) (p : PassState) (bs : Batches) → IsShared t n m p bs → (k : ℕ) (b : BatchState) → k < length bs → b.caller ≡ p.first + k → HasCaller p b.caller
 own_at t n m p bs shared k b within is = record { from = omega (arith, is); below = omega (arith, is, within, shared.places) }
 
-pub shared_stays : (t : TableId) (n m : ℕ) (p q : PassState) (bs : Batches) → IsShared t n m p bs → q ≡ at_front p q.front → BatchesStay p q → IsShared t n m q bs
+pub shared_stays : (t : TableId) (n m : ℕ) (p q : PassState) (bs : Batches) → IsShared t n m p bs → q ≡ continuing p q → BatchesStay p q → IsShared t n m q bs
 shared_stays t n m p q bs shared same stay = grind (arith, own_at)
+
+-- where only the front changed, the lock steps are the same
+pub continues : (p q : PassState) → q ≡ at_front p q.front → q ≡ continuing p q
+continues p q same = same ∙ (λ i. record p { front = q.front; locks = (sym same i).locks; misses = (sym same i).misses })
+
+-- and after a call that failed only the front and the lock steps changed
+failed_continues : (p q : PassState) (why : Option Refusal) (k : ℕ) (f : CellFault) → Failed p q why k f → q ≡ continuing p q
+failed_continues p q why k fault.Busy busy = subst (λ (x : PassState). x ≡ continuing p x) (sym busy.same) refl
+failed_continues p q why k (fault.Refused r) refused =
+    let same = refused.follows.same in
+    same ∙ (λ i. record p { front = q.front; locks = (sym same i).locks; misses = (sym same i).misses })
 
 -- nor does a call that failed move one
 pub shared_failed : (t : TableId) (n m : ℕ) (p q : PassState) (bs : Batches) (why : Option Refusal) (k : ℕ) (f : CellFault) → IsShared t n m p bs → Failed p q why k f → IsShared t n m q bs
-shared_failed t n m p q bs why k x shared fails = grind (arith, shared_stays)
+shared_failed t n m p q bs why k x shared fails = grind (arith, shared_stays, failed_continues)
 
 -- batches that stay in front do so whoever's they are
 pub others_stay : (p q : PassState) (c : ℕ) → BatchesStay p q → OtherBatchesStay c p q
 others_stay p q c stay b has other front = stay b has front
 
--- only the front of the pass changed
-pub only_front : (mark : ℕ) (p q : PassState) (bs : Batches) → q ≡ at_front p q.front → OnlyFront (record { mark = mark; pass = p; batches = bs }) (record { mark = mark; pass = q; batches = bs })
+-- only the front of the pass and its lock steps changed
+pub only_front : (mark : ℕ) (p q : PassState) (bs : Batches) → q ≡ continuing p q → OnlyFront (record { mark = mark; pass = p; batches = bs }) (record { mark = mark; pass = q; batches = bs })
 only_front mark p q bs same =
     let state : PassState → SharedState = λ x. record { mark = mark; pass = x; batches = bs } in
     ap state same
 
 -- ---- calls that change one
 
-pub shared_set : (t : TableId) (n m : ℕ) (p q : PassState) (bs : Batches) (c place : ℕ) (x : Option BatchState) → IsShared t n m p bs → q ≡ at_front p q.front → OtherBatchesStay c p q → place + p.first ≡ c → place < length bs → IsFor q.front c x → IsShared t n m q (set bs place x)
+pub shared_set : (t : TableId) (n m : ℕ) (p q : PassState) (bs : Batches) (c place : ℕ) (x : Option BatchState) → IsShared t n m p bs → q ≡ continuing p q → OtherBatchesStay c p q → place + p.first ≡ c → place < length bs → IsFor q.front c x → IsShared t n m q (set bs place x)
 shared_set t n m p q bs c place x shared same stay at lt for =
     let first : q.first ≡ p.first = ap (λ (x : PassState). x.first) same in
     let end : q.end ≡ p.end = ap (λ (x : PassState). x.end) same in
@@ -56,7 +67,7 @@ shared_set t n m p q bs c place x shared same stay at lt for =
       each = rw first (each_set p.front q.front p.first place c bs x shared.each (λ i b within is other front. stay b (own_at t n m p bs shared i b within is) other front) (omega (arith, at)) lt for);
     }
 
-module _ (t : TableId) (n m room : ℕ) (p q : PassState) (bs new : Batches) (c place : ℕ) (shared : IsShared t n m p bs) (same : q ≡ at_front p q.front) (at : place + p.first ≡ c) (lt : place < length bs) (kept : room ≡ m) where
+module _ (t : TableId) (n m room : ℕ) (p q : PassState) (bs new : Batches) (c place : ℕ) (shared : IsShared t n m p bs) (same : q ≡ continuing p q) (at : place + p.first ≡ c) (lt : place < length bs) (kept : room ≡ m) where
   -- after a take
   pub shared_took : (b : BatchState) → OtherBatchesStay c p q → b.caller ≡ c → IsInFront q.front b → new ≡ set bs place (Some b) → IsShared t n room q new
   shared_took b stay own front now = rw (now, kept) (shared_set t n m p q bs c place (Some b) shared same stay at lt (for_some q.front c b own front))
@@ -73,12 +84,12 @@ pub found_set : (mark c place : ℕ) (p : PassState) (bs : Batches) (x : Option 
 found_set mark c place p bs x at lt = found_at mark c place p (set bs place x) at ∙ get_or-set_same bs place x None lt
 
 -- and another caller's
-pub other_set : (mark c place : ℕ) (p q : PassState) (bs : Batches) (x : Option BatchState) → q ≡ at_front p q.front → place + p.first ≡ c → (d : ℕ) → d ≢ c → shared_batch_of (record { mark = mark; pass = q; batches = set bs place x }) d ≡ shared_batch_of (record { mark = mark; pass = p; batches = bs }) d
+pub other_set : (mark c place : ℕ) (p q : PassState) (bs : Batches) (x : Option BatchState) → q ≡ continuing p q → place + p.first ≡ c → (d : ℕ) → d ≢ c → shared_batch_of (record { mark = mark; pass = q; batches = set bs place x }) d ≡ shared_batch_of (record { mark = mark; pass = p; batches = bs }) d
 other_set mark c place p q bs x same at d other = grind (arith, nat_le, nat_tests, get_or-set_other)
 
 -- ---- what calls about an open batch did
 
-module _ (mark : ℕ) (p q : PassState) (bs new : Batches) (c place : ℕ) (same : q ≡ at_front p q.front) (at : place + p.first ≡ c) (lt : place < length bs) where
+module _ (mark : ℕ) (p q : PassState) (bs new : Batches) (c place : ℕ) (same : q ≡ continuing p q) (at : place + p.first ≡ c) (lt : place < length bs) where
   only_of : (x : Option BatchState) → new ≡ set bs place x → ChangesOnly c (record { mark = mark; pass = p; batches = bs }) (record { mark = mark; pass = q; batches = new })
   only_of x now = rw now (record { mark = refl; pass = same; others = other_set mark c place p q bs x same at })
 

@@ -2,7 +2,7 @@
 use Rattle.std.specs.Prelude.{◌≡◌, ◌≢◌, ℕ, ◌≤◌, ◌+◌, ◌-◌, nat_le, List, Option, None, IsSome, length, get_or, if◌then◌else◌}
 use Rattle.atomic_table.specs.Seated.{TableId}
 use Rattle.thp_node.specs.Prelude.{BatchState}
-use Rattle.thp_cell.specs.Prelude.{at_front, PassState, HasCaller}
+use Rattle.thp_cell.specs.Prelude.{continuing, PassState, HasCaller}
 use Rattle.thp_capi.specs.OpenBatches.{EachOpen}
 
 -- a pass, the mark of its cell, and the open batch of each of its callers
@@ -34,14 +34,14 @@ pub record HasOpen (s : SharedState) : Type 0 where
   pub own : HasCaller s.pass caller
   pub batch : IsSome (shared_batch_of s caller)
 
--- only the front of the pass changed
+-- only the front of the pass and its lock steps changed
 abbrev pub OnlyFront : SharedState → SharedState → Type 0
-OnlyFront old new = new ≡ record old { pass = at_front old.pass new.pass.front }
+OnlyFront old new = new ≡ record old { pass = continuing old.pass new.pass }
 
--- only the front of the pass and the open batch of caller c changed
+-- only the front of the pass, its lock steps and the open batch of caller c changed
 pub record ChangesOnly (c : ℕ) (old new : SharedState) : Type 0 where
   pub mark : new.mark ≡ old.mark
-  pub pass : new.pass ≡ at_front old.pass new.pass.front
+  pub pass : new.pass ≡ continuing old.pass new.pass
   pub others : (d : ℕ) → d ≢ c → shared_batch_of new d ≡ shared_batch_of old d
 
 -- the part p of the pass, whose callers keep their open batches

@@ -7,7 +7,7 @@ use Rattle.thp_history.specs.declared.refusal.Refusal.TheVariants.{OutOfMemory}
 use Rattle.thp_history.specs.declared.shape.Shape.{Shape}
 use Rattle.thp_history.specs.Prelude.{History, events_of, IsLegal}
 use Rattle.thp_node.specs.Prelude.{BatchState, IsInFront, NodeState, Did, DidAlloc, Refused}
-use Rattle.thp_cell.specs.Prelude.{AllBelow, Since, ExtendsBy, Place, pass_state, known_state, HasTaken, IsLocked, PassState, HasCaller, part, at_front, Called, Follows, IsRefused}
+use Rattle.thp_cell.specs.Prelude.{AllBelow, Since, ExtendsBy, Place, pass_state, known_state, HasTaken, IsLocked, PassState, HasCaller, part, at_front, locking, Called, Follows, IsRefused}
 use Rattle.atomic_table.specs.Table.{rest}
 use Rattle.atomic_table.specs.Lent.{seat_with}
 use Rattle.thp_cell.proofs.Fronts.{adds_none, adds_by, adds_more, known_more, whole_front}
@@ -39,7 +39,7 @@ went_alloc x old new first end c why m from below legal did refused = grind (ari
 
 -- the seat t has the slot, with the node `old`, which a pass that was p took, or kept already
 pub record Holds (keeps : Bool) (p : PassState) (t : Place) (old : NodeState) : Type 0 where
-  pub same : pass_state keeps t ≡ at_front p t.me.0.front
+  pub same : pass_state keeps t ≡ at_front (locking p) t.me.0.front
   pub callers : p.first < p.end
   pub inside : p.end ≤ p.callers
   pub has_node : t.me.0.has_node ≡ true
@@ -72,7 +72,7 @@ may_leave p t old new held went =
     }
 
 -- the pass after the call: its front is the node's journal
-pub after : {keeps : Bool} (p : PassState) (t u : Place) (old new : NodeState) → Holds keeps p t old → known_state keeps u ≡ known_state keeps (seat_with t 0 new) → known_state keeps u ≡ at_front p new.journal
+pub after : {keeps : Bool} (p : PassState) (t u : Place) (old new : NodeState) → Holds keeps p t old → known_state keeps u ≡ known_state keeps (seat_with t 0 new) → known_state keeps u ≡ at_front (locking p) new.journal
 after p t u old new held left = left ∙ ap (λ (q : PassState). at_front q new.journal) held.same
 
 -- what is left of a batch is in front of its flight still, when the node is taken out
@@ -80,17 +80,18 @@ pub still_in_front : {keeps : Bool} (p : PassState) (t : Place) (old : NodeState
 still_in_front p t old b held has front = batch_stays p.shape p old.journal b held.since (subst (λ z. IsLegal z old.journal) held.shape held.legal) has front
 
 -- batches that stay in front through the call stay so through the hold
-pub batches_stay : {keeps : Bool} (p q : PassState) (t : Place) (old new : NodeState) (b : BatchState) → Holds keeps p t old → q ≡ at_front p new.journal → HasCaller p b.caller → IsInFront p.front b
+pub batches_stay : {keeps : Bool} (p q : PassState) (t : Place) (old new : NodeState) (b : BatchState) → Holds keeps p t old → q ≡ at_front (locking p) new.journal → HasCaller p b.caller → IsInFront p.front b
     → (IsInFront old.journal b → IsInFront new.journal b) → IsInFront q.front b
 batches_stay p q t old new b held is has front stays = subst (λ (x : PassState). IsInFront x.front b) (sym is) (stays (still_in_front p t old b held has front))
 
 -- a call that was refused
-pub refused : {keeps : Bool} (p q : PassState) (t : Place) (old new : NodeState) (why : Shape → History → Option Refusal) (m : Shape → History → ℕ) (r : Refusal) → Holds keeps p t old → q ≡ at_front p new.journal
+pub refused : {keeps : Bool} (p q : PassState) (t : Place) (old new : NodeState) (why : Shape → History → Option Refusal) (m : Shape → History → ℕ) (r : Refusal) → Holds keeps p t old → q ≡ at_front (locking p) new.journal
     → Refused old new (why old.shape old.journal) (m old.shape old.journal) r → IsRefused p q (why q.shape q.front) (m q.shape q.front) r
 refused p q t old new why m r held is not_done =
     let journal : new.journal ≡ old.journal = ap (λ (x : NodeState). x.journal) not_done.same in
     let legal : IsLegal p.shape old.journal = subst (λ z. IsLegal z old.journal) held.shape held.legal in
-    let at : Follows p (at_front p new.journal) = subst (λ h. Follows p (at_front p h)) (sym journal) (follows p (at_front p old.journal) refl held.since held.known legal) in
+    let p' : PassState = locking p in
+    let at : Follows p' (at_front p' new.journal) = subst (λ h. Follows p' (at_front p' h)) (sym journal) (follows p' (at_front p' old.journal) refl held.since held.known legal) in
     let cause = not_done.cause in
     let C : Shape × History → Type 0 = λ z. (why z.0 z.1 ≡ Some r) ⊎ ((why z.0 z.1 ≡ None) × (r ≡ OutOfMemory) × (0 < m z.0 z.1)) in
     let here : C (old.shape, old.journal) = ⊎_elim inl (λ (x : (why old.shape old.journal ≡ None) × (r ≡ OutOfMemory) × (old.room < m old.shape old.journal)). inr (x.0, x.1, some_event x)) cause in
@@ -103,7 +104,7 @@ refused p q t old new why m r held is not_done =
     some_event x = let few = x.2 in omega arith
 
 -- a call that recorded events
-pub called : {keeps : Bool} (p q : PassState) (t : Place) (old new : NodeState) (c : ℕ) (es : List Event) (Says : Shape → History → List Event → Type 0) → Holds keeps p t old → HasCaller p c → q ≡ at_front p new.journal
+pub called : {keeps : Bool} (p q : PassState) (t : Place) (old new : NodeState) (c : ℕ) (es : List Event) (Says : Shape → History → List Event → Type 0) → Holds keeps p t old → HasCaller p c → q ≡ at_front (locking p) new.journal
     → Did old new c es → Says old.shape old.journal es → Called p q c (Says p.shape)
 called p q t old new c es Says held has is did says =
     let front : new.journal ≡ old.journal ++ es = did.journal in
@@ -114,6 +115,7 @@ called p q t old new c es Says held has is did says =
     let inside = held.inside in
     let own = has.below in
     subst (λ (x : PassState). Called p x c (Says p.shape)) (sym is) record {
+      locked = refl;
       found = old.journal;
       own = es;
       others = others;

@@ -4,7 +4,7 @@ use Rattle.atomic_table.specs.Table.{rest}
 use Rattle.atomic_table.specs.Lent.{seat_with}
 use Rattle.thp_history.specs.Prelude.{IsLegal}
 use Rattle.thp_node.specs.Prelude.{NodeState}
-use Rattle.thp_cell.specs.Prelude.{ExtendsBy, AllBelow, at_front, keeping, Follows, PassState, Place, returning_node, seat_front, pass_state, known_state, IsFree, IsIn, IsLocked, IsNumbered, HasTaken}
+use Rattle.thp_cell.specs.Prelude.{ExtendsBy, AllBelow, at_front, keeping, locking, Follows, PassState, Place, returning_node, seat_front, pass_state, known_state, IsFree, IsIn, IsLocked, IsNumbered, HasTaken}
 use Rattle.thp_cell.proofs.Fronts.{since_same}
 use Rattle.thp_cell.proofs.Passes.{follows}
 
@@ -56,16 +56,16 @@ kept_of p s has =
     }
 
 -- and its pass knows the node's journal
-taken_state : (p : PassState) (s : Place) (has : HasTaken p s) → known_state true s ≡ at_front (keeping p) has.node.journal
+taken_state : (p : PassState) (s : Place) (has : HasTaken p s) → known_state true s ≡ at_front (keeping (locking p)) has.node.journal
 taken_state p s has =
     ap (at_front (pass_state true s)) (kept_front s has.node has.slot) ∙ ap (λ (q : PassState). at_front (keeping q) has.node.journal) has.same
 
-pub follows_taken : (p q : PassState) (s : Place) → p ≡ q → HasTaken p s → Follows (keeping q) (known_state true s)
+pub follows_taken : (p q : PassState) (s : Place) → p ≡ q → HasTaken p s → Follows (keeping (locking q)) (known_state true s)
 follows_taken p q s is has =
-    let r = keeping p in
+    let r = keeping (locking p) in
     let legal : IsLegal p.shape has.node.journal = subst (λ z. IsLegal z has.node.journal) has.shape has.legal in
     let at : Follows r (at_front r has.node.journal) = follows r (at_front r has.node.journal) refl has.since has.known legal in
-    subst (λ (x : PassState). Follows (keeping x) (known_state true s)) is (subst (Follows r) (sym (taken_state p s has)) at)
+    subst (λ (x : PassState). Follows (keeping (locking x)) (known_state true s)) is (subst (Follows r) (sym (taken_state p s has)) at)
 
 -- its numbers are what they were
 pub numbered_taken : (first end : ℕ) (p : PassState) (s : Place) → IsNumbered first end p → HasTaken p s → IsNumbered first end (known_state true s)

@@ -10,17 +10,39 @@ use Rattle.thp_history.specs.declared.shape.Shape.{Shape}
 use Rattle.thp_history.specs.Prelude.{History, IsLegal, queue}
 use Rattle.thp_history.proofs.LegalSteps.{legal_front}
 use Rattle.thp_node.specs.Prelude.{NodeState}
-use Rattle.thp_cell.specs.Prelude.{OldFront, SeatKnowledge, Since, AllBelow, holding, OldFrontAgrees, SeatAgrees, SeatsAgree, Home, RuleHolds, SeatValue, seat_with_front, SeatTook, Locked, Counted, Looked}
+use Rattle.thp_cell.specs.Prelude.{OldFront, SeatKnowledge, Since, AllBelow, holding, OldFrontAgrees, SeatAgrees, SeatsAgree, Home, RuleHolds, SeatValue, seat_locking, seat_missing, seat_with_front, SeatTook, Locked, Counted, Looked}
 use Rattle.thp_cell.proofs.Fronts.{since_same, between, below_end}
 use Rattle.thp_cell.proofs.Sums.{sum_set, bit_set}
-use Rattle.thp_cell.proofs.Seating.{Cell, reseated, stays, nobody}
+use Rattle.thp_cell.proofs.Seating.{Cell, reseated, nobody}
 
 module _ (n : ℕ) (s : Shape) where
   -- what a seat that saw the whole history knows
   knows_all : (h : History) (v : SeatKnowledge) (has_node : Bool) → SeatAgrees n s h v → v.first < v.end → SeatsAgree n s h (seat_with_front v has_node h)
   knows_all h v has_node was live = grind (arith, since_same, All-nil)
 
-  -- the lock step finds the bit clear and takes the node, or finds it set and changes nothing
+  -- and what it knows where it took the slot, or missed it
+  knows_locking : (h : History) (v : SeatKnowledge) → SeatAgrees n s h v → v.first < v.end → SeatsAgree n s h (seat_with_front (seat_locking v) true h)
+  knows_locking h v was live = grind (arith, since_same, All-nil)
+
+  knows_missing : (h : History) (v : SeatKnowledge) → SeatAgrees n s h v → v.has_node ≡ false → v.old_fronts ≡ [] → SeatsAgree n s h (seat_missing v)
+  knows_missing h v was free clean = grind (arith, All-nil)
+
+  -- a step that leaves word and slot, after which the seat knows w, of the same history
+  loaded : (t : Cell) (r : RuleHolds n s t) (id : ℕ) (me : SeatValue) (w : SeatKnowledge) (found : ℕ) → found ≡ get_or t.words 0 0 → get_elem? t.views id ≡ some me.0 → me.0.has_node ≡ false → w.has_node ≡ false → w.first ≡ me.0.first → w.end ≡ me.0.end → me.0.first < me.0.end
+      → SeatsAgree n s r.history w → RuleHolds n s (stepped t 0 found id me.1 w keeps)
+  loaded t r id me w found word at free free' f e live mine =
+      let v = me.0 in
+      let x : ℕ = get_or t.words 0 0 in
+      let is : x ≡ 2 * length (queue s r.history) + sum_by holding t.views = ap (λ l. get_or l 0 0) r.word in
+      let sum = sum_set holding t.views id v w at in
+      let a : holding v ≡ 0 = ap (λ b. cond b 1 0) free in
+      let c : holding w ≡ 0 = ap (λ b. cond b 1 0) free' in
+      let same : sum_by holding t.views ≡ sum_by holding (set t.views id w) = omega arith in
+      reseated n s t r id v w r.history (set t.words 0 found) t.homes at (inl refl) f e live r.legal r.short
+      (ap (λ l. set l 0 found) r.word ∙ ap (λ (y : ℕ). y ∷ []) (omega arith))
+      (subst (λ (k : ℕ). Home k s r.history t.homes) same r.home) mine
+
+  -- the lock step finds the bit clear and takes the node, or finds it set and changes neither word nor slot
   pub locks : (slots id : ℕ) (v : SeatKnowledge) → v.has_node ≡ false → v.first < v.end → v.old_fronts ≡ [] → Allows (RuleHolds n s) slots id (v, []) 0 (λ x. bit_or x 1) (Locked (step slots 0 1 0 none) (v, []))
   locks slots id v free live clean t r wide at small =
       let q : ℕ = length (queue s r.history) in
@@ -34,12 +56,12 @@ module _ (n : ℕ) (s : Shape) where
       (λ home.
       let m = r.home.in_slot home in
       let node = m.node in
-      let w : SeatKnowledge = seat_with_front v true node.journal in
+      let w : SeatKnowledge = seat_with_front (seat_locking v) true node.journal in
       let sum = sum_set holding t.views id v w at in
       let none_yet : holding v ≡ 0 = ap (λ b. cond b 1 0) free in
       let now : sum_by holding (set t.views id w) ≡ 1 = omega arith in
       let to : bit_or x 1 ≡ 2 * q + sum_by holding (set t.views id w) = omega arith in
-      let mine : SeatsAgree n s r.history w = subst (λ l. SeatsAgree n s r.history (seat_with_front v true l)) (sym m.journal) (knows_all r.history v true was live) in
+      let mine : SeatsAgree n s r.history w = subst (λ l. SeatsAgree n s r.history (seat_with_front (seat_locking v) true l)) (sym m.journal) (knows_locking r.history v was live) in
       let took : SeatTook (v, []) (w, (0, node) ∷ []) = record {
         node = node;
         now = refl;
@@ -61,30 +83,15 @@ module _ (n : ℕ) (s : Shape) where
         record { clear = λ _. took; set = λ odd. absurd (odd (omega arith)) },
       ))
       (λ away. let one_out : out ≡ 1 = omega arith in (
-        v,
+        seat_missing v,
         keeps,
         tt,
-        stays n s t id (v, []) v at (r.word ∙ ap (λ (y : ℕ). y ∷ []) (sym is)) (bit_or x 1) (omega arith) r,
+        loaded t r id (v, []) (seat_missing v) (bit_or x 1) (omega arith) at free free refl refl live (knows_missing r.history v was free clean),
         record {
           clear = λ even. absurd (omega arith);
           set = λ _. record { same = refl; shared = nobody n s t r id v at free live one_out };
         },
       ))
-
-  -- a load, after which the seat knows w, of the same history
-  loaded : (t : Cell) (r : RuleHolds n s t) (id : ℕ) (me : SeatValue) (w : SeatKnowledge) → get_elem? t.views id ≡ some me.0 → me.0.has_node ≡ false → w.has_node ≡ false → w.first ≡ me.0.first → w.end ≡ me.0.end → me.0.first < me.0.end
-      → SeatsAgree n s r.history w → RuleHolds n s (stepped t 0 (get_or t.words 0 0) id me.1 w keeps)
-  loaded t r id me w at free free' f e live mine =
-      let v = me.0 in
-      let x : ℕ = get_or t.words 0 0 in
-      let is : x ≡ 2 * length (queue s r.history) + sum_by holding t.views = ap (λ l. get_or l 0 0) r.word in
-      let sum = sum_set holding t.views id v w at in
-      let a : holding v ≡ 0 = ap (λ b. cond b 1 0) free in
-      let c : holding w ≡ 0 = ap (λ b. cond b 1 0) free' in
-      let same : sum_by holding t.views ≡ sum_by holding (set t.views id w) = omega arith in
-      reseated n s t r id v w r.history (set t.words 0 x) t.homes at (inl refl) f e live r.legal r.short
-      (ap (λ l. set l 0 x) r.word ∙ ap (λ (y : ℕ). y ∷ []) (omega arith))
-      (subst (λ (k : ℕ). Home k s r.history t.homes) same r.home) mine
 
   -- the load of a count sees the whole history and its queue's length
   pub counts : (slots id : ℕ) (v : SeatKnowledge) → v.has_node ≡ false → v.first < v.end → Allows (RuleHolds n s) slots id (v, []) 0 (λ x. x) (Counted (step slots 0 0 0 none) (v, []))
@@ -98,7 +105,7 @@ module _ (n : ℕ) (s : Shape) where
         seat_with_front v false r.history,
         keeps,
         tt,
-        loaded t r id (v, []) (seat_with_front v false r.history) at free refl refl refl live (knows_all r.history v false was live),
+        loaded t r id (v, []) (seat_with_front v false r.history) (get_or t.words 0 0) refl at free refl refl refl live (knows_all r.history v false was live),
         record {
           front = r.history;
           now = refl;
@@ -117,7 +124,7 @@ module _ (n : ℕ) (s : Shape) where
         seat_with_front v false v.front,
         keeps,
         tt,
-        loaded t r id (v, []) (seat_with_front v false v.front) at free refl refl refl live
+        loaded t r id (v, []) (seat_with_front v false v.front) (get_or t.words 0 0) refl at free refl refl refl live
             record {
               lives = λ e. absurd (true≢false (sym e));
               knows = λ _. record {

@@ -1,5 +1,5 @@
 -- The effect of a cell's calls on a pass.
-use Rattle.std.specs.Prelude.{◌≡◌, ◌≢◌, ℕ, ◌⊎◌, ◌<◌, true, false, List, ◌++◌, All, Option, None, Some, filter}
+use Rattle.std.specs.Prelude.{◌≡◌, ◌≢◌, ℕ, ◌+◌, ◌⊎◌, ◌<◌, cond, true, false, List, ◌++◌, All, Option, None, Some, filter}
 use Rattle.thp_history.specs.declared.events.Event.{Event}
 use Rattle.thp_history.specs.declared.refusal.Refusal.{Refusal}
 use Rattle.thp_history.specs.declared.refusal.Refusal.TheVariants.{OutOfMemory}
@@ -13,6 +13,18 @@ use Rattle.thp_cell.specs.declared.fault.CellFault.TheVariants as fault
 -- the pass with another front
 abbrev pub at_front : PassState → History → PassState
 at_front p h = record p { front = h }
+
+-- the pass after one lock step that took the node; a pass that keeps its node makes none
+abbrev pub locking : PassState → PassState
+locking p = record p { locks = cond p.keeps p.locks (p.locks + 1) }
+
+-- the pass after one lock step that found another pass to have the node
+abbrev pub missing : PassState → PassState
+missing p = record p { misses = p.misses + 1 }
+
+-- the pass p, except for the front and the lock steps, which are those of q
+abbrev pub continuing : PassState → PassState → PassState
+continuing p q = record p { front = q.front; locks = q.locks; misses = q.misses }
 
 -- the pass with its node kept
 abbrev pub keeping : PassState → PassState
@@ -53,8 +65,9 @@ pub record Follows (p q : PassState) : Type 0 where
 -- A call of caller c found the node with the journal `found`: the front of the pass, extended by events of callers that are not
 -- the pass's. The call recorded its own events, all of caller c, and the new front is `found` extended by these. The part of c is
 -- extended by them, and no other part changes. No event has a caller outside the cell, so a pass that has all callers found its
--- front. `Says` is the call's property of `found` and its own events.
+-- front. One lock step took the node, unless the pass keeps it. `Says` is the call's property of `found` and its own events.
 pub record Called (p q : PassState) (c : ℕ) (Says : History → List Event → Type 0) : Type 0 where
+  pub locked : q ≡ at_front (locking p) q.front
   pub found : History
   pub own : List Event
   pub others : Since p.first p.end p.front found
@@ -69,16 +82,17 @@ pub record Called (p q : PassState) (c : ℕ) (Says : History → List Event →
   pub other_parts : (d : ℕ) → HasCaller p d → d ≢ c → part q d ≡ part p d
   pub says : Says found own
 
--- another pass has the node: front and parts are unchanged, the pass does not keep the node, and it does not have all callers
+-- another pass has the node, which the call's one lock step found: nothing else changed, the pass does not keep the node, and it does
+-- not have all callers
 pub record IsBusy (p q : PassState) : Type 0 where
-  pub same : q ≡ p
+  pub same : q ≡ missing p
   pub free : p.keeps ≡ false
   pub shared : HasAll p → ⊥
 
--- the call recorded nothing. Its refusal r is the reason that holds at the front, or else lack of memory, which can't happen to a
+-- the call took the node by one lock step, unless its pass keeps it, and recorded nothing. Its refusal r is the reason that holds at the front, or else lack of memory, which can't happen to a
 -- call that records no event
 pub record IsRefused (p q : PassState) (why : Option Refusal) (m : ℕ) (r : Refusal) : Type 0 where
-  pub follows : Follows p q
+  pub follows : Follows (locking p) q
   pub cause : (why ≡ Some r) ⊎ ((why ≡ None) × (r ≡ OutOfMemory) × (0 < m))
 
 -- the result of a call that failed
@@ -86,17 +100,17 @@ abbrev pub Failed : PassState → PassState → Option Refusal → ℕ → CellF
 Failed p q why m fault.Busy = IsBusy p q
 Failed p q why m (fault.Refused r) = IsRefused p q why m r
 
--- the pass of the callers below `at`, and that of the callers from `at` on; neither keeps the node
+-- the pass of the callers below `at`, with the lock steps so far, and that of the callers from `at` on; neither keeps the node
 abbrev pub below : PassState → ℕ → PassState
 below p at = record p { end = at; keeps = false }
 
 abbrev pub from : PassState → ℕ → PassState
-from p at = record p { first = at; keeps = false }
+from p at = record p { first = at; keeps = false; locks = 0; misses = 0 }
 
 -- one front is a prefix of the other, and the longer is the new front; its further events are of callers of neither pass. The new
--- pass does not keep the node
+-- pass does not keep the node, and has the lock steps of both
 pub record IsJoined (p q r : PassState) : Type 0 where
-  pub callers : r ≡ record p { end = q.end; keeps = false; front = r.front }
+  pub callers : r ≡ record p { end = q.end; keeps = false; front = r.front; locks = p.locks + q.locks; misses = p.misses + q.misses }
   pub longer : (r.front ≡ p.front) ⊎ (r.front ≡ q.front)
   pub left : Since p.first p.end p.front r.front
   pub right : Since q.first q.end q.front r.front

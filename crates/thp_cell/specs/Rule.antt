@@ -111,4 +111,6 @@ root n node = record {
   has_node = false;
   front = node.journal;
   old_fronts = [];
+  locks = 0;
+  misses = 0;
 }

@@ -4,7 +4,7 @@ use Rattle.atomic_table.specs.declared.shared.Seat.{Seat}
 use Rattle.thp_history.specs.Prelude.{max_callers, max_order, History, IsLegal}
 use Rattle.thp_node.specs.Prelude.{NodeState}
 use Rattle.thp_cell.specs.declared.rule.SeatKnowledge.{SeatKnowledge}
-use Rattle.thp_cell.specs.Calls.{at_front}
+use Rattle.thp_cell.specs.Calls.{at_front, locking, missing}
 use Rattle.thp_cell.specs.Rule.{AllBelow, ExtendsBy, Since}
 use Rattle.thp_cell.specs.Views.{PassState, HasAll}
 
@@ -21,6 +21,8 @@ pass_state keeps s = record {
   end = s.me.0.end;
   keeps = keeps;
   front = s.me.0.front;
+  locks = s.me.0.locks;
+  misses = s.me.0.misses;
 }
 
 -- the history that a seat's holder knows: if the seat has the slot, the journal of the node in it
@@ -81,7 +83,7 @@ IsIn false s = IsFree s
 -- The seat has the slot with the node, taken or kept by a pass that was p. The journal is the front of the pass, extended by
 -- events of other callers only; and it is the front that the table knows, extended by events of the pass's callers only.
 pub record HasTaken (p : PassState) (s : Place) : Type 0 where
-  pub same : pass_state p.keeps s ≡ at_front p s.me.0.front
+  pub same : pass_state p.keeps s ≡ at_front (locking p) s.me.0.front
   pub callers : p.first < p.end
   pub inside : p.end ≤ p.callers
   pub has_node : s.me.0.has_node ≡ true
@@ -93,9 +95,9 @@ pub record HasTaken (p : PassState) (s : Place) : Type 0 where
   pub legal : IsLegal node.shape node.journal
   pub known : AllBelow p.callers node.journal
 
--- another pass has the node: nothing changed
+-- another pass has the node: one lock step missed it, and nothing else changed
 pub record FoundBusy (keeps : Bool) (old new : Place) : Type 0 where
-  pub same : known_state keeps new ≡ known_state keeps old
+  pub same : known_state keeps new ≡ missing (known_state keeps old)
   pub free : keeps ≡ false
   pub still : IsIn keeps new
   pub shared : HasAll (known_state keeps old) → ⊥

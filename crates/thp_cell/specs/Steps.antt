@@ -1,7 +1,7 @@
 -- What each kind of atomic step adds to the seat that makes it. There are eight kinds: the creation of the table and its first
 -- seat (`root`), the split of a seat, the join of two seats, the lock step that finds the bit clear or set, the store that ends a
 -- hold, the load after a join, and the load of a count.
-use Rattle.std.specs.Prelude.{◌≡◌, ◌≢◌, ℕ, ◌/◌, ◌%◌, ◌^◌, ◌<◌, ◌≤◌, Bool, true, false, nat_le, cond, [], ◌∷◌, None, length, All}
+use Rattle.std.specs.Prelude.{◌≡◌, ◌≢◌, ℕ, ◌+◌, ◌/◌, ◌%◌, ◌^◌, ◌<◌, ◌≤◌, Bool, true, false, nat_le, cond, [], ◌∷◌, None, length, All}
 use Rattle.atomic_table.specs.Table.{Me, Step}
 use Rattle.thp_history.specs.Prelude.{History, IsLegal, queue}
 use Rattle.thp_node.specs.Prelude.{NodeState}
@@ -20,23 +20,31 @@ CellStep = Step NodeState
 abbrev pub seat_with_front : SeatKnowledge → Bool → History → SeatKnowledge
 seat_with_front v has_node h = record v { has_node = has_node; front = h; old_fronts = [] }
 
+-- the seat after a lock step that took the slot
+abbrev pub seat_locking : SeatKnowledge → SeatKnowledge
+seat_locking v = record v { locks = v.locks + 1 }
+
+-- the seat after a lock step that found another seat to have it
+abbrev pub seat_missing : SeatKnowledge → SeatKnowledge
+seat_missing v = record v { misses = v.misses + 1 }
+
 -- the seat has all callers
 pub record SeatIsWhole (v : SeatKnowledge) : Type 0 where
   pub from : v.first ≡ 0
   pub to : v.end ≡ v.callers
 
--- the seat has the slot, with the node whose journal is its new front
+-- the seat took the slot, with the node whose journal is its new front
 pub record SeatTook (m m' : SeatValue) : Type 0 where
   pub node : NodeState
-  pub now : m' ≡ (seat_with_front m.0 true node.journal, (0, node) ∷ [])
+  pub now : m' ≡ (seat_with_front (seat_locking m.0) true node.journal, (0, node) ∷ [])
   pub shape : node.shape ≡ m.0.shape
   pub since : Since m.0.first m.0.end m.0.front node.journal
   pub legal : IsLegal m.0.shape node.journal
   pub callers : AllBelow m.0.callers node.journal
 
--- nothing changed; another seat has the node
+-- another seat has the node: nothing else changed
 pub record WasBusy (m m' : SeatValue) : Type 0 where
-  pub same : m' ≡ m
+  pub same : m' ≡ (seat_missing m.0, m.1)
   pub shared : SeatIsWhole m.0 → ⊥
 
 -- the lock step, which found the bit clear or set
@@ -65,12 +73,12 @@ pub record Looked (st : CellStep) (m : SeatValue) (found : ℕ) (m' : SeatValue)
   pub inside : m.0.end ≤ m.0.callers
   pub legal : IsLegal m.0.shape m.0.front
 
--- the two parts of a split
+-- the two parts of a split: the left one has the lock steps so far
 abbrev pub left_of : ℕ → SeatKnowledge → SeatKnowledge
 left_of at v = record v { end = at; has_node = false; old_fronts = [] }
 
 abbrev pub right_of : ℕ → SeatKnowledge → SeatKnowledge
-right_of at v = record v { first = at; has_node = false; old_fronts = [] }
+right_of at v = record v { first = at; has_node = false; old_fronts = []; locks = 0; misses = 0 }
 
 -- the longer of two fronts
 abbrev pub longer : History → History → History
@@ -79,13 +87,15 @@ longer xs ys = cond (nat_le (length xs) (length ys)) ys xs
 abbrev pub old_front : SeatKnowledge → OldFront
 old_front v = record { first = v.first; end = v.end; front = v.front }
 
--- a join: the callers of both, the longer front, and both old fronts until the following load
+-- a join: the callers and lock steps of both, the longer front, and both old fronts until the following load
 abbrev pub joined_seats : SeatKnowledge → SeatKnowledge → SeatKnowledge
 joined_seats v w = record v {
   end = w.end;
   has_node = false;
   front = longer v.front w.front;
   old_fronts = old_front v ∷ old_front w ∷ [];
+  locks = v.locks + w.locks;
+  misses = v.misses + w.misses;
 }
 
 -- the second seat after the join: it has no caller
@@ -98,4 +108,6 @@ spent = record {
   has_node = false;
   front = [];
   old_fronts = [];
+  locks = 0;
+  misses = 0;
 }

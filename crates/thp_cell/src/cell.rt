@@ -3,7 +3,7 @@ ghost use Rattle.std.specs.Prelude.{◌≡◌, ℕ, ◌<◌, ◌≤◌, ◌⊎�
 ghost use Rattle.thp_history.specs.Prelude.{max_callers, events_of, IsLegal, queue};
 ghost use Rattle.thp_node.specs.Prelude.{StandsOnce, StandsWhole, TakesOldest, LeavesFreedAlone, NothingEnters, HasFramesOnce, KeepsFrames, NodeState};
 ghost use Rattle.thp_cell.specs.Views.{HasCaller, HasAll, part};
-ghost use Rattle.thp_cell.specs.Calls.{Follows, PartsStay, BatchesStay, IsBusy, IsJoined, below, from, keeping, returning_node};
+ghost use Rattle.thp_cell.specs.Calls.{Follows, PartsStay, BatchesStay, IsBusy, IsJoined, below, from, keeping, locking, returning_node};
 ghost use Rattle.atomic_table.specs.Seated.{TableId};
 ghost use Rattle.std.specs.Borrow.{sem};
 ghost use Rattle.thp_cell.specs.Steps.{seat_with_front, left_of, right_of, SeatTook, WasBusy};
@@ -83,6 +83,7 @@ impl<R: Recorder> NodeCell<R> {
         ensures front { IfOk result (λ r. r.1.front ≡ node.journal) }
         ensures legal { IfOk result (λ r. IsLegal r.1.shape r.1.front) }
         ensures parts { IfOk result (λ r. (c : ℕ) → part r.1 c ≡ events_of c node.journal) }
+        ensures untried { IfOk result (λ r. (r.1.locks ≡ 0) × (r.1.misses ≡ 0)) }
     {
         if callers == 0 || callers > MAX_CALLERS {
             drop(node);
@@ -188,7 +189,7 @@ impl<R: Recorder> NodeCell<R> {
     /// Fails with `Busy` if another pass has the node, and returns the pass. That never happens to a pass of all callers.
     pub fn hold(&self, pass: Pass<R>) -> Result<Hold<R>, (Pass<R>, Busy)>
         requires { pass.cell ≡ self.now }
-        ensures follows { IfOk result (λ h. Follows (returning_node pass) h) }
+        ensures follows { IfOk result (λ h. Follows (locking (returning_node pass)) h) }
         ensures busy { IfErr result (λ e. IsBusy (returning_node pass) e.0) }
     {
         let mut pass = pass;
@@ -229,7 +230,7 @@ impl<R: Recorder> NodeCell<R> {
     /// dismantled. Fails with `Busy` if another pass has the node, which never happens to a pass of all callers.
     pub fn keep_node(&self, pass: &mut Pass<R>) -> Result<(), Busy>
         requires { pass.old.cell ≡ self.now }
-        ensures follows { OnOk result (Follows (keeping pass.old) pass.new) }
+        ensures follows { OnOk result (Follows (keeping (locking pass.old)) pass.new) }
         ensures busy { OnErr result (IsBusy pass.old pass.new) }
     {
         if !self.begin_call(&mut pass.seat, pass.keeps) {

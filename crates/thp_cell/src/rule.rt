@@ -37,6 +37,10 @@ pub struct SeatKnowledge {
     pub front: LinkedList<Event>,
     /// The fronts that a join has joined, until the load after it.
     pub old_fronts: LinkedList<OldFront>,
+    /// How many lock steps of the seat took the slot.
+    pub locks: u64,
+    /// How many found another seat to have it.
+    pub misses: u64,
 }
 
 /// The parameters of a new table: the number of callers, and the node.

@@ -7,7 +7,8 @@ use Rattle.thp_history.specs.declared.events.Outcome.{Outcome}
 use Rattle.thp_history.specs.declared.events.What.{What}
 use Rattle.thp_history.specs.declared.events.What.TheVariants.{Alloc}
 use Rattle.thp_history.specs.declared.shape.Shape.{Shape}
-use Rattle.thp_history.specs.Prelude.{least_free, allocates, frees, is_freed, is_live, block_in_use, History, some_event, Fits, FitsAlloc, FitsBy, IsLegal, in_words}
+use Rattle.thp_history.specs.Prelude.{least_free, allocates, frees, is_freed, is_live, block_in_use, is_block_held, History, some_event, Fits, FitsAlloc, FitsBy, IsLegal, in_words}
+use Rattle.thp_history.proofs.Blocks.{held_in_use}
 use Rattle.thp_history.proofs.Bools.{by_bool, and_both, and-true}
 use Rattle.thp_history.proofs.LegalSteps.{legal_push}
 use Rattle.thp_page.specs.Prelude.{slot_at, HoldsPage, Slot, Table}
@@ -185,26 +186,38 @@ freed_inside s h w words (Some b) legal a f = omega (arith, ((legal_homed s h le
 
 -- ---- the least free block
 
-pub least_found : (s : Shape) (h : History) (words : List ℕ) (b : ℕ) → MarksFree s h words → in_words words b ≡ true → ((k : ℕ) → k < b → in_words words k ≡ false) → b ≡ least_free s h
-unfolding least_free
-least_found s h words b a there least =
-    let both = and_both _ _ (sym (a.marked b) ∙ there) in
-    let within : b < s.blocks = inside b s.blocks both.0 in
-    sym (first_found (λ i. not (block_in_use h i)) 0 s.blocks b (omega arith) (omega (arith, within)) both.1 (λ i l. second (nat_lt i s.blocks) _ (lt-ltb i s.blocks (omega (arith, within))) (sym (a.marked i) ∙ least i l))) where
-      inside : (i j : ℕ) → nat_lt i j ≡ true → i < j
-      inside i j e = grind arith
+module _ (s : Shape) (h : History) (words : List ℕ) (legal : IsLegal s h) (marks : MarksFree s h words) where
+  -- a block is held where it is in use
+  held_as : (b : ℕ) (used : Bool) → block_in_use h b ≡ used → not (is_block_held h b) ≡ not used
+  held_as b used e = ap not (held_in_use s h legal b ∙ e)
 
-      second : (x y : Bool) → x ≡ true → (x && y) ≡ false → y ≡ false
-      second true y e f = f
-      second false y e f = absurd (cc)
+  second : (x y : Bool) → x ≡ true → (x && not y) ≡ false → y ≡ true
+  second true true e f = refl
+  second true false e f = absurd (cc)
+  second false y e f = absurd (cc)
 
-pub least_missing : (s : Shape) (h : History) (words : List ℕ) → MarksFree s h words → ((k : ℕ) → in_words words k ≡ false) → 0 ≡ least_free s h
-unfolding least_free
-least_missing s h words a none =
-    sym (first_none (λ i. not (block_in_use h i)) 0 s.blocks (λ i l. second (nat_lt i s.blocks) _ (lt-ltb i s.blocks (omega arith)) (sym (a.marked i) ∙ none i))) where
-      second : (x y : Bool) → x ≡ true → (x && y) ≡ false → y ≡ false
-      second true y e f = f
-      second false y e f = absurd (cc)
+  first : (x y : Bool) → (x && not y) ≡ true → (x ≡ true) × (y ≡ false)
+  first true false e = (refl, refl)
+  first true true e = absurd (cc)
+  first false y e = absurd (cc)
+
+  within : (i j : ℕ) → nat_lt i j ≡ true → i < j
+  within i j e = grind arith
+
+  -- a block of the node that has no mark is held
+  unmarked : (b : ℕ) → b < s.blocks → in_words words b ≡ false → not (is_block_held h b) ≡ false
+  unmarked b l none = held_as b true (second (nat_lt b s.blocks) (block_in_use h b) (lt-ltb b s.blocks l) (sym (marks.marked b) ∙ none))
+
+  pub least_found : (b : ℕ) → in_words words b ≡ true → ((k : ℕ) → k < b → in_words words k ≡ false) → b ≡ least_free s h
+  unfolding least_free
+  least_found b there least =
+      let both = first (nat_lt b s.blocks) (block_in_use h b) (sym (marks.marked b) ∙ there) in
+      let inside : b < s.blocks = within b s.blocks both.0 in
+      sym (first_found (λ i. not (is_block_held h i)) 0 s.blocks b (omega arith) (omega (arith, inside)) (held_as b false both.1) (λ i l. unmarked i (omega (arith, inside)) (least i l)))
+
+  pub least_missing : ((k : ℕ) → in_words words k ≡ false) → 0 ≡ least_free s h
+  unfolding least_free
+  least_missing none = sym (first_none (λ i. not (is_block_held h i)) 0 s.blocks (λ i l. unmarked i (omega arith) (none i)))
 
 -- ---- no event yet
 

@@ -8,7 +8,7 @@ use Rattle.std.proofs.lemmas.List.Elements.{filter-append}
 use Rattle.std.proofs.lemmas.List.Folds.{list_any-append}
 use Rattle.std.proofs.lemmas.List.Sums.{fold_push}
 use Rattle.std.proofs.lemmas.Map.Keys.{IsDistinct-push}
-use Rattle.thp_history.specs.Prelude.{Event, Outcome, Freed, What, Shape, History, some_event, by, allocates, frees, is_live, is_freed, block_in_use, IsLegal, Fits, FitsBy}
+use Rattle.thp_history.specs.Prelude.{Event, Outcome, Freed, What, Shape, History, some_event, by, allocates, frees, is_live, is_freed, block_in_use, is_block_held, keeps_block, IsLegal, Fits, FitsBy}
 use Rattle.thp_history.specs.declared.events.What.TheVariants.{Alloc, UnmapWhole, UnmapSub, Unpin}
 use Rattle.thp_history.proofs.Alive.{Grown, grown_push, grown_none}
 use Rattle.thp_history.proofs.Bools.{or_none, or-false}
@@ -124,6 +124,56 @@ any-filter t u (x ∷ xs) = one (u x) ∙ ap (λ b. (u x && t x) || b) (any-filt
 any-map : {X Y : Type 0} (t : Y → Bool) (f : X → Y) (xs : List X) → list_any t (map f xs) ≡ list_any (λ x. t (f x)) xs
 any-map t f [] = refl
 any-map t f (x ∷ xs) = ap (λ b. t (f x) || b) (any-map t f xs)
+
+-- a page of the list has block b, and none of the events to come frees the page
+keeps_on : ℕ → History → ℕ × ℕ → Bool
+keeps_on b later f = nat_eq b f.0 && not (some_event (frees f.1) later)
+
+-- after an outcome a page keeps its block where the outcome leaves it on the list
+keeps_by : (b : ℕ) (later : History) (bs : List (ℕ × ℕ)) (p : ℕ) (o : Outcome) →
+    list_any (keeps_on b later) (occupied_by bs p o) ≡ list_any (λ (f : ℕ × ℕ). nat_eq b f.0 && not ((nat_eq f.1 p && is_freed o) || some_event (frees f.1) later)) bs
+unfolding keeps_on
+keeps_by b later bs p Freed =
+    any-filter (keeps_on b later) (λ (f : ℕ × ℕ). not (nat_eq f.1 p)) bs ∙ any-ext _ _ (λ (f : ℕ × ℕ). one (nat_eq f.1 p) (nat_eq b f.0) (some_event (frees f.1) later)) bs where
+      one : (x y z : Bool) → (not x && (y && not z)) ≡ (y && not ((x && true) || z))
+      one true true z = refl
+      one true false z = refl
+      one false y z = refl
+keeps_by b later bs p o = any-ext _ _ (λ (f : ℕ × ℕ). one (nat_eq f.1 p) (nat_eq b f.0) (some_event (frees f.1) later)) bs where
+  one : (x y z : Bool) → (y && not z) ≡ (y && not ((x && false) || z))
+  one true y z = refl
+  one false y z = refl
+
+-- the same after an event, which may add a page
+keeps_after : (b : ℕ) (later : History) (bs : List (ℕ × ℕ)) (w : What) →
+    list_any (keeps_on b later) (occupied_after bs w) ≡ (list_any (λ (f : ℕ × ℕ). nat_eq b f.0 && not (frees f.1 w || some_event (frees f.1) later)) bs || keeps_block b w later)
+unfolding keeps_on
+keeps_after b later bs (Alloc p c) = list_any-append (keeps_on b later) bs ((c, p) ∷ []) ∙ ap (λ v. list_any (keeps_on b later) bs || v) (or-false (keeps_on b later (c, p)))
+keeps_after b later bs (UnmapWhole o p r) = keeps_by b later bs p o ∙ sym (or-false _)
+keeps_after b later bs (UnmapSub o p f n r) = keeps_by b later bs p o ∙ sym (or-false _)
+keeps_after b later bs (Unpin o p r) = keeps_by b later bs p o ∙ sym (or-false _)
+keeps_after b later bs w = sym (or-false _)
+
+-- a block is held from some pages on
+held_from : (b : ℕ) (bs : List (ℕ × ℕ)) (h : History) →
+    list_any (λ (f : ℕ × ℕ). nat_eq b f.0) (fold (λ bs (e : Event). occupied_after bs e.what) bs h) ≡ (list_any (keeps_on b h) bs || is_block_held h b)
+unfolding keeps_on is_block_held some_event
+held_from b bs [] = any-ext _ _ (λ (f : ℕ × ℕ). sym (and_true (nat_eq b f.0))) bs ∙ sym (or-false _) where
+  and_true : (x : Bool) → (x && true) ≡ x
+  and_true true = refl
+  and_true false = refl
+held_from b bs (e ∷ h) =
+    held_from b (occupied_after bs e.what) h
+    ∙ ap (λ v. v || is_block_held h b) (keeps_after b h bs e.what)
+    ∙ assoc _ (keeps_block b e.what h) (is_block_held h b) where
+      assoc : (x y z : Bool) → ((x || y) || z) ≡ (x || (y || z))
+      assoc true y z = refl
+      assoc false y z = refl
+
+-- a block is held where it is one of these, in any list of events
+pub held_is : (h : History) (b : ℕ) → is_block_held h b ≡ list_any (nat_eq b) (blocks_in_use h)
+unfolding occupied
+held_is h b = sym (any-map (nat_eq b) (λ (f : ℕ × ℕ). f.0) (occupied h) ∙ held_from b [] h)
 
 -- the allocations of pages that live
 abbrev pub living : History → List (ℕ × ℕ)
@@ -276,3 +326,7 @@ placed_none shape = record { grown = grown_none shape; blocked = record { as_liv
 -- and of every legal history
 pub legal_placed : (shape : Shape) (h : History) → IsLegal shape h → Placed shape h
 legal_placed shape h l = legal_all shape (Placed shape) (placed_none shape) (λ k e g f. placed_push shape k e g f) h l
+
+-- in a legal history the blocks held are those in use
+pub held_in_use : (shape : Shape) (h : History) → IsLegal shape h → (b : ℕ) → is_block_held h b ≡ block_in_use h b
+held_in_use shape h l b = held_is h b ∙ sym (in_use_is shape h b (legal_placed shape h l).blocked)

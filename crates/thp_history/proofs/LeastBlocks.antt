@@ -5,13 +5,13 @@ use Rattle.std.proofs.lemmas.Bool.{cases_lt}
 use Rattle.std.proofs.lemmas.List.{map-append, length-map}
 use Rattle.std.proofs.lemmas.List.Folds.{fold_along}
 use Rattle.std.proofs.lemmas.List.Sums.{fold_push}
-use Rattle.thp_history.specs.Prelude.{Event, Outcome, Freed, What, Shape, with_block, event_with, without_blocks, SameButBlocks, first_that, least_free, with_least_blocks, is_closed, block_in_use, History, by, IsLegal, Fits, FitsBy, IsFirstMisfit, refusal, each_below}
+use Rattle.thp_history.specs.Prelude.{Event, Outcome, Freed, What, Shape, with_block, event_with, without_blocks, SameButBlocks, first_that, least_free, with_least_blocks, is_closed, block_in_use, is_block_held, History, by, IsLegal, Fits, FitsBy, IsFirstMisfit, refusal, each_below}
 use Rattle.thp_history.specs.declared.events.What.TheVariants.{Alloc, UnmapWhole, UnmapSub, Unpin}
 use Rattle.thp_history.specs.Refusals as call
 use Rattle.thp_history.proofs.Alike.{alike, fits_alike, fold_alike, Alike}
 use Rattle.thp_history.proofs.Allowed.{allowed_alloc}
 use Rattle.thp_history.proofs.Below.{each_below-ext}
-use Rattle.thp_history.proofs.Blocks.{Placed, placed_push, placed_none, legal_placed, in_use_is, occupied, occupied_by, occupied_after, blocks_in_use}
+use Rattle.thp_history.proofs.Blocks.{Placed, placed_push, placed_none, legal_placed, in_use_is, held_is, occupied, occupied_by, occupied_after, blocks_in_use}
 use Rattle.thp_history.proofs.LeftOut.{fails_first, left_out, fewer}
 use Rattle.thp_history.proofs.LegalSteps.{legal_all, legal_none, legal_push}
 use Rattle.thp_history.proofs.ListPlaces.{append_none}
@@ -113,13 +113,17 @@ not_refused : (shape : Shape) (h : History) → is_closed h ≡ false → each_b
 unfolding refusal
 not_refused shape h c e = grind arith
 
+-- the blocks held are those in use
+held_placed : (shape : Shape) (k : History) → Placed shape k → (b : ℕ) → is_block_held k b ≡ block_in_use k b
+held_placed shape k s b = held_is k b ∙ sym (in_use_is shape k b s.blocked)
+
 -- the least free block is free where one is
-next_free : (shape : Shape) (k : History) → each_below shape.blocks (block_in_use k) ≡ false → (least_free shape k < shape.blocks) × (block_in_use k (least_free shape k) ≡ false)
+next_free : (shape : Shape) (k : History) → Placed shape k → each_below shape.blocks (block_in_use k) ≡ false → (least_free shape k < shape.blocks) × (block_in_use k (least_free shape k) ≡ false)
 unfolding least_free
-next_free shape k e =
-    let first : (block_in_use k (first_that (λ b. not (block_in_use k b)) (range_with_len 0 shape.blocks)) ≡ false) × (first_that (λ b. not (block_in_use k b)) (range_with_len 0 shape.blocks) < shape.blocks) =
-    fails_first shape.blocks (block_in_use k) e in
-    (first.1, first.0)
+next_free shape k s e =
+    let first : (is_block_held k (first_that (λ b. not (is_block_held k b)) (range_with_len 0 shape.blocks)) ≡ false) × (first_that (λ b. not (is_block_held k b)) (range_with_len 0 shape.blocks) < shape.blocks) =
+    fails_first shape.blocks (is_block_held k) (each_below-ext shape.blocks (is_block_held k) (block_in_use k) (λ b l. held_placed shape k s b) ∙ e) in
+    (first.1, sym (held_placed shape k s _) ∙ first.0)
 
 -- an event that fits one choice fits the other with the least free block
 fits_least : (shape : Shape) (h k : History) (c : ℕ) (w : What) → Placed shape h → Placed shape k → SameButBlocks h k →
@@ -129,7 +133,7 @@ fits_least shape h k c (Alloc p b) s t e f =
     let fine : (is_closed h ≡ false) × (each_below shape.blocks (block_in_use h) ≡ false) = allowed_alloc shape h f.allowed in
     let a : Alike h k = alike h k e in
     let free : each_below shape.blocks (block_in_use k) ≡ false = then_free shape k t (omega (arith, free_then shape h s fine.1, as_many h k e)) in
-    let next : (least_free shape k < shape.blocks) × (block_in_use k (least_free shape k) ≡ false) = next_free shape k free in
+    let next : (least_free shape k < shape.blocks) × (block_in_use k (least_free shape k) ≡ false) = next_free shape k t free in
     record { allowed = not_refused shape k (sym a.closed ∙ fine.0) free; number = f.number ∙ a.allocations; inside = next.0; free = next.1 }
 fits_least shape h k c w s t e f =
     fits_alike shape h k (alike h k e) (h ++ by c w ∷ []) (k ++ by c w ∷ [])

@@ -1,12 +1,12 @@
 -- Laws of every legal history about blocks: live pages have different blocks, and the choice of blocks is free.
-use Rattle.std.specs.Prelude.{◌≡◌, ℕ, ◌≤◌, Bool, true, not, if◌then◌else◌, List, [], ◌∷◌, ◌++◌, map}
+use Rattle.std.specs.Prelude.{◌≡◌, ℕ, ◌≤◌, Bool, true, false, not, ◌&&◌, ◌||◌, nat_eq, if◌then◌else◌, List, [], ◌∷◌, ◌++◌, map}
 use Rattle.std.specs.List.{fold, range_with_len}
 use Rattle.thp_history.specs.declared.events.Event.{Event}
 use Rattle.thp_history.specs.declared.events.What.{What}
 use Rattle.thp_history.specs.declared.events.What.TheVariants.{Alloc}
 use Rattle.thp_history.specs.declared.shape.Shape.{Shape}
 use Rattle.thp_history.specs.History.{History, by, some_event}
-use Rattle.thp_history.specs.Counts.{is_live}
+use Rattle.thp_history.specs.Counts.{is_live, frees}
 use Rattle.thp_history.specs.Frames.{places, block_in_use}
 use Rattle.thp_history.specs.Legal.{IsLegal, IsFirstMisfit}
 
@@ -37,9 +37,23 @@ abbrev pub first_that : (ℕ → Bool) → List ℕ → ℕ
 first_that test [] = 0
 first_that test (i ∷ is) = if test i then i else first_that test is
 
--- the least block that no live page holds; 0 if every block is held
+-- the event allocates a page in block b, and none of the later events frees the page
+abbrev pub keeps_block : ℕ → What → History → Bool
+keeps_block b (Alloc p c) later = nat_eq b c && not (some_event (frees p) later)
+keeps_block b w later = false
+
+-- a page holds block b, in any list of events: from its allocation there to the next event that frees it
+unfoldable pub is_block_held : History → ℕ → Bool
+is_block_held [] b = false
+is_block_held (e ∷ h) b = keeps_block b e.what h || is_block_held h b
+
+-- in a legal history the blocks held are those in use
+abbrev pub HeldBlocksAreInUse : Type 0
+HeldBlocksAreInUse = (s : Shape) (h : History) → IsLegal s h → (b : ℕ) → is_block_held h b ≡ block_in_use h b
+
+-- the least block that no page holds; 0 if every block is held
 unfoldable pub least_free : Shape → History → ℕ
-least_free s h = first_that (λ b. not (block_in_use h b)) (range_with_len 0 s.blocks)
+least_free s h = first_that (λ b. not (is_block_held h b)) (range_with_len 0 s.blocks)
 
 -- the history with the least free block in each allocation
 unfoldable pub with_least_blocks : Shape → History → History

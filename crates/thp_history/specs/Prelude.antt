@@ -1,7 +1,7 @@
 -- Re-exports the definitions and types of this library: other files import those that they cite from here, in one line.
 pub use Rattle.thp_history.specs.Asking.{AsksBelow, AsksEvents}
-pub use Rattle.thp_history.specs.BlockLaws.{SameButBlocks, event_with, first_that, with_block}
-unfoldable pub use Rattle.thp_history.specs.BlockLaws.{least_free, with_least_blocks, without_blocks}
+pub use Rattle.thp_history.specs.BlockLaws.{SameButBlocks, event_with, first_that, keeps_block, with_block}
+unfoldable pub use Rattle.thp_history.specs.BlockLaws.{is_block_held, least_free, with_least_blocks, without_blocks}
 pub use Rattle.thp_history.specs.Checks.{IsCheckResult}
 pub use Rattle.thp_history.specs.Counters.{add_split_pmds, add_split_underused, counters_of, is_failed_try, is_page_split, queues, splits_pmds, splits_underused, thp_deferred_split_page, thp_split_page, thp_split_page_failed}
 unfoldable pub use Rattle.thp_history.specs.Counters.{thp_split_pmd, thp_underused_split_page}

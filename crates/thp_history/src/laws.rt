@@ -1,5 +1,5 @@
 //! Laws of every legal history. The functions do nothing: each contract is the law.
-ghost use Rattle.thp_history.specs.BlockLaws.{LivePagesAreApart, LeastBlocksChangeOnlyBlocks, LeastBlocksAreLegal, LeastBlocksLastLongest};
+ghost use Rattle.thp_history.specs.BlockLaws.{LivePagesAreApart, HeldBlocksAreInUse, LeastBlocksChangeOnlyBlocks, LeastBlocksAreLegal, LeastBlocksLastLongest};
 ghost use Rattle.thp_history.specs.FrameLaws.{EachFrameOnce, FramesAreKept, LivePagesHoldFrames};
 ghost use Rattle.thp_history.specs.PlaceLaws.{NoPageTwice, StandingPagesAreWhole, OldestAreTaken, FreedPagesAreLeftAlone, PagesAreNewOnce, NothingEntersAfterClose, OthersOnlyFree, FrontsStayInFront, BatchStaysInFront, FlightsGoByEvents, QueueGoesByEvents};
 ghost use Rattle.thp_history.specs.RequestLaws.{AnswersAreOne, RequestsDecide};
@@ -61,9 +61,10 @@ pub fn flights_go_by_events()
     ensures queue { QueueGoesByEvents }
 {}
 
-/// States that the choice of blocks is free: if some choice makes the events legal, so does that of the least block that no live
-/// page holds, and no choice is legal for longer.
+/// States that the choice of blocks is free: if some choice makes the events legal, so does that of the least block that no page
+/// holds, and no choice is legal for longer. The blocks that pages of a legal history hold are those in use.
 pub fn least_blocks_are_legal()
+    ensures held { HeldBlocksAreInUse }
     ensures same { LeastBlocksChangeOnlyBlocks }
     ensures legal { LeastBlocksAreLegal }
     ensures longest { LeastBlocksLastLongest }

@@ -1,42 +1,19 @@
 -- How often blocks are held, by the history.
-use Rattle.std.proofs.Common.{◌≡◌, ℕ, ◌+◌, Bool, true, false, cond, not, ◌&&◌, ◌||◌, List, [], ◌∷◌, ◌++◌, refl, ap, sym, ◌∙◌, arith, inl, inr, nat_eq, eq-eqb, ne_eqb, Option, Some, None, count_by, IfSome}
-use Rattle.std.specs.List.{fold, list_any}
-use Rattle.std.proofs.lemmas.List.Sums.{fold_push}
+use Rattle.std.proofs.Common.{◌≡◌, ℕ, ◌+◌, Bool, true, false, cond, not, ◌&&◌, ◌||◌, List, [], ◌∷◌, ◌++◌, refl, ap, ap₂, sym, ◌∙◌, arith, inl, inr, nat_eq, eq-eqb, ne_eqb, zero-add, append_assoc, Option, Some, None, count_by, IfSome}
+use Rattle.std.proofs.lemmas.List.Sums.{sum_by-append}
 use Rattle.std.proofs.lemmas.Bool.Decides.{eqb_tells}
 use Rattle.thp_history.specs.declared.events.Event.{Event}
 use Rattle.thp_history.specs.declared.events.Outcome.{Outcome}
 use Rattle.thp_history.specs.declared.events.Outcome.TheVariants.{Freed}
 use Rattle.thp_history.specs.declared.events.What.{What}
 use Rattle.thp_history.specs.declared.events.What.TheVariants.{Alloc}
-use Rattle.thp_history.specs.Prelude.{allocates, frees, is_alloc, is_freed, places, places_live, block_in_use, History, by, count_of, some_event}
-use Rattle.thp_history.proofs.Bools.{and-false, and-true, or_first, or_second, or-false}
-use Rattle.thp_history.proofs.Counting.{count-cons, count_any}
-use Rattle.thp_history.proofs.Pushes.{count_of_push, some_event_push}
+use Rattle.thp_history.specs.Prelude.{frees, is_alloc, is_freed, is_block_held, keeps_block, History, by, some_event}
+use Rattle.thp_history.proofs.Bools.{and-false, and-true, or_second}
+use Rattle.thp_history.proofs.Counting.{count-cons}
+use Rattle.thp_history.proofs.ListPlaces.{append_none}
+use Rattle.thp_history.proofs.Pushes.{some_event_push, some_same}
 use Rattle.thp_journal_reader.specs.Freeing.{freed_by, freed_page}
-use Rattle.thp_journal_reader.specs.HeldBlocks.{is_unfreed, holds_one, times_held, with_its_block, blocks_of}
-
--- tests that agree count the same
-count_alike : {X : Type 0} (t u : X → Bool) (xs : List X) → ((x : X) → t x ≡ u x) → count_by t xs ≡ count_by u xs
-count_alike t u [] f = refl
-count_alike t u (x ∷ xs) f =
-    count-cons t x xs ∙ ap (λ b. cond b 1 0 + count_by t xs) (f x) ∙ ap (λ n. cond (u x) 1 0 + n) (count_alike t u xs f) ∙ sym (count-cons u x xs)
-
--- a block is held as often by pages that are the same
-alike_one : (f g : ℕ → Bool) (b : ℕ) → ((p : ℕ) → f p ≡ g p) → (w : What) → holds_one f b w ≡ holds_one g b w
-alike_one f g b h x = grind (arith, nat_eq)
-
--- and in a history
-pub held_alike : (f g : ℕ → Bool) (b : ℕ) (h : History) → ((p : ℕ) → f p ≡ g p) → count_of (holds_one f b) h ≡ count_of (holds_one g b) h
-unfolding count_of
-held_alike f g b h same = count_alike (λ e. holds_one f b e.what) (λ e. holds_one g b e.what) h (λ e. alike_one f g b same e.what)
-
--- an event that is no allocation gives no block
-no_block : (f : ℕ → Bool) (b : ℕ) (w : What) → is_alloc w ≡ false → holds_one f b w ≡ false
-no_block f b x e = grind arith
-
--- and leaves each page its blocks
-pub no_new_block : (p : ℕ) (bs : List ℕ) (w : What) → is_alloc w ≡ false → with_its_block p bs w ≡ bs
-no_new_block p bs x e = grind arith
+use Rattle.thp_journal_reader.specs.HeldBlocks.{times_held, kept_block, blocks_of}
 
 -- which page is freed, as a test
 abbrev is_it : ℕ → Option ℕ → Bool
@@ -69,164 +46,137 @@ event_page w o there other = go o (freed_page w) there refl (λ p e. other p (fr
   go (Some q) None y e g = let no : frees q w ≡ false = frees_none q w e in absurd (cc)
   go o (Some p) y e g = g p e
 
--- pages after one more event
-unfreed_push : (h : History) (e : Event) (q : ℕ) → is_unfreed (h ++ e ∷ []) q ≡ not (some_event (frees q) h || frees q e.what)
-unfreed_push h e q = ap not (some_event_push (frees q) h e)
+-- ---- what an event keeps, with one more after it
 
--- where it frees none
-pub unfreed_same : (h : History) (e : Event) (q : ℕ) → frees q e.what ≡ false → is_unfreed (h ++ e ∷ []) q ≡ is_unfreed h q
-unfreed_same h e q f = unfreed_push h e q ∙ ap (λ b. not (some_event (frees q) h || b)) f ∙ ap not (or-false (some_event (frees q) h))
+-- an event that is no allocation keeps no block
+no_holder : (b : ℕ) (w : What) (later : History) → is_alloc w ≡ false → keeps_block b w later ≡ false
+no_holder b x later e = grind arith
 
--- where it frees p
-pub unfreed_without : (h : History) (e : Event) (q p : ℕ) → freed_page e.what ≡ Some p → is_unfreed (h ++ e ∷ []) q ≡ (is_unfreed h q && not (nat_eq q p))
-unfreed_without h e q p f = unfreed_push h e q ∙ ap (λ b. not (some_event (frees q) h || b)) (frees_one q p e.what f) ∙ apart (some_event (frees q) h) (nat_eq q p) where
-  apart : (a b : Bool) → not (a || b) ≡ (not a && not b)
-  apart true b = refl
-  apart false b = refl
+no_block : (p : ℕ) (w : What) (later : History) → is_alloc w ≡ false → kept_block p w later ≡ []
+no_block p x later e = grind arith
 
--- the blocks of a page after one more event
-pub blocks_push : (h : History) (e : Event) (p : ℕ) → blocks_of (h ++ e ∷ []) p ≡ with_its_block p (blocks_of h p) e.what
+-- one more event that frees no page
+holder_same : (b : ℕ) (w : What) (h : History) (e : Event) → ((q : ℕ) → frees q e.what ≡ false) → keeps_block b w (h ++ e ∷ []) ≡ keeps_block b w h
+holder_same b (Alloc q c) h e f = ap (λ v. nat_eq b c && not v) (some_same (frees q) h e (f q))
+holder_same b w h e f = refl
+
+-- one that doesn't free page p
+block_same : (p : ℕ) (w : What) (h : History) (e : Event) → frees p e.what ≡ false → kept_block p w (h ++ e ∷ []) ≡ kept_block p w h
+block_same p (Alloc q c) h e f = ap (λ v. cond (nat_eq p q && not v) (c ∷ []) []) (some_same (frees p) h e f)
+block_same p w h e f = refl
+
+-- one that frees page p
+freed_now : (p : ℕ) (h : History) (e : Event) → frees p e.what ≡ true → some_event (frees p) (h ++ e ∷ []) ≡ true
+freed_now p h e f = some_event_push (frees p) h e ∙ or_second (some_event (frees p) h) (frees p e.what) f
+
+block_gone : (p : ℕ) (w : What) (h : History) (e : Event) → frees p e.what ≡ true → kept_block p w (h ++ e ∷ []) ≡ []
+block_gone p (Alloc q c) h e f =
+    ap (λ v. cond (nat_eq p q && not v) (c ∷ []) []) (freed_now p h e f) ∙ ap (λ v. cond v (c ∷ []) []) (and-false (nat_eq p q))
+block_gone p w h e f = refl
+
+-- ---- the blocks of a page after one more event
+
+-- one that doesn't free the page
+blocks_last : (h : History) (e : Event) (p : ℕ) → frees p e.what ≡ false → blocks_of (h ++ e ∷ []) p ≡ kept_block p e.what [] ++ blocks_of h p
 unfolding blocks_of
-blocks_push h e p = fold_push (λ bs (x : Event). with_its_block p bs x.what) [] h e
+blocks_last [] e p f = sym (append_none (kept_block p e.what []))
+blocks_last (x ∷ h) e p f =
+    ap₂ (λ (xs ys : List ℕ). xs ++ ys) (blocks_last h e p f) (block_same p x.what h e f)
+    ∙ append_assoc (kept_block p e.what []) (blocks_of h p) (kept_block p x.what h)
 
--- how often a block is held after one more event that frees none
-pub held_push : (h : History) (e : Event) (b : ℕ) → freed_page e.what ≡ None → times_held (h ++ e ∷ []) b ≡ times_held h b + cond (holds_one (is_unfreed h) b e.what) 1 0
-held_push h e b f =
-    let same : (p : ℕ) → is_unfreed (h ++ e ∷ []) p ≡ is_unfreed h p = λ p. unfreed_same h e p (frees_none p e.what f) in
-    count_of_push (holds_one (is_unfreed (h ++ e ∷ [])) b) h e
-    ∙ ap (λ n. n + cond (holds_one (is_unfreed (h ++ e ∷ [])) b e.what) 1 0) (held_alike (is_unfreed (h ++ e ∷ [])) (is_unfreed h) b h same)
-    ∙ ap (λ c. times_held h b + cond c 1 0) (alike_one (is_unfreed (h ++ e ∷ [])) (is_unfreed h) b same e.what)
+-- one that neither frees the page nor allocates
+pub blocks_same : (h : History) (e : Event) (p : ℕ) → frees p e.what ≡ false → is_alloc e.what ≡ false → blocks_of (h ++ e ∷ []) p ≡ blocks_of h p
+blocks_same h e p f n = blocks_last h e p f ∙ ap (λ (bs : List ℕ). bs ++ blocks_of h p) (no_block p e.what [] n)
+
+-- an allocation
+pub blocks_more : (h : History) (c p x q : ℕ) → blocks_of (h ++ by c (Alloc p x) ∷ []) q ≡ cond (nat_eq q p) (x ∷ blocks_of h q) (blocks_of h q)
+unfolding some_event
+blocks_more h c p x q = blocks_last h (by c (Alloc p x)) q refl ∙ own (nat_eq q p) (blocks_of h q) where
+  own : (v : Bool) (bs : List ℕ) → cond (v && true) (x ∷ []) [] ++ bs ≡ cond v (x ∷ bs) bs
+  own true bs = refl
+  own false bs = refl
+
+-- one that frees the page
+pub blocks_gone : (h : History) (e : Event) (p : ℕ) → frees p e.what ≡ true → is_alloc e.what ≡ false → blocks_of (h ++ e ∷ []) p ≡ []
+unfolding blocks_of
+blocks_gone [] e p f n = no_block p e.what [] n
+blocks_gone (x ∷ h) e p f n = ap₂ (λ (xs ys : List ℕ). xs ++ ys) (blocks_gone h e p f n) (block_gone p x.what h e f)
+
+-- ---- the holders of a block after one more event
 
 -- nothing more
 nothing : (n : ℕ) (c : Bool) → c ≡ false → n + cond c 1 0 ≡ n
 nothing n x e = grind arith
 
--- an event that neither frees nor allocates
-pub held_quiet : (h : History) (e : Event) (b : ℕ) → freed_page e.what ≡ None → is_alloc e.what ≡ false → times_held (h ++ e ∷ []) b ≡ times_held h b
-held_quiet h e b f n = held_push h e b f ∙ nothing (times_held h b) _ (no_block (is_unfreed h) b e.what n)
+-- one that frees no page
+held_last : (h : History) (e : Event) (b : ℕ) → ((q : ℕ) → frees q e.what ≡ false) → times_held (h ++ e ∷ []) b ≡ times_held h b + cond (keeps_block b e.what []) 1 0
+unfolding times_held
+held_last [] e b f = let n : ℕ = cond (keeps_block b e.what []) 1 0 in let r : n + 0 ≡ 0 + n = omega arith in r
+held_last (x ∷ h) e b f =
+    let here : cond (keeps_block b x.what (h ++ e ∷ [])) 1 0 ≡ cond (keeps_block b x.what h) 1 0 = ap (λ v. cond v 1 0) (holder_same b x.what h e f) in
+    sums _ _ _ _ _ here (held_last h e b f) where
+      sums : (a b c d e : ℕ) → a ≡ b → c ≡ d + e → a + c ≡ (b + d) + e
+      sums a b c d e f g = omega arith
 
--- an allocation of a page that was freed
-pub held_freed : (h : History) (c p x b : ℕ) → is_unfreed h p ≡ false → times_held (h ++ by c (Alloc p x) ∷ []) b ≡ times_held h b
-held_freed h c p x b u = held_push h (by c (Alloc p x)) b refl ∙ nothing (times_held h b) _ (ap (λ v. nat_eq b x && v) u ∙ and-false (nat_eq b x))
+-- one that neither frees nor allocates
+pub held_quiet : (h : History) (e : Event) (b : ℕ) → ((q : ℕ) → frees q e.what ≡ false) → is_alloc e.what ≡ false → times_held (h ++ e ∷ []) b ≡ times_held h b
+held_quiet h e b f n = held_last h e b f ∙ nothing (times_held h b) (keeps_block b e.what []) (no_holder b e.what [] n)
 
--- an allocation of a page that wasn't
-pub held_more : (h : History) (c p x b : ℕ) → is_unfreed h p ≡ true → times_held (h ++ by c (Alloc p x) ∷ []) b ≡ times_held h b + cond (nat_eq b x) 1 0
-held_more h c p x b u = held_push h (by c (Alloc p x)) b refl ∙ ap (λ v. times_held h b + cond v 1 0) (ap (λ v. nat_eq b x && v) u ∙ and-true (nat_eq b x))
+-- an allocation
+pub held_more : (h : History) (c p x b : ℕ) → times_held (h ++ by c (Alloc p x) ∷ []) b ≡ times_held h b + cond (nat_eq b x) 1 0
+unfolding some_event
+held_more h c p x b = held_last h (by c (Alloc p x)) b (λ q. refl) ∙ ap (λ v. times_held h b + cond v 1 0) (and-true (nat_eq b x))
 
--- a page's part of what an event gives
-part_one : (f g : ℕ → Bool) (p b : ℕ) → f p ≡ true → ((q : ℕ) → g q ≡ (f q && not (nat_eq q p))) → (w : What) →
-    cond (holds_one f b w) 1 0 ≡ cond (holds_one g b w) 1 0 + cond (places p b w) 1 0
-part_one f g p b live rest (Alloc q c) =
+-- what an allocation keeps, and what it kept for the page that is freed
+part_one : (w : What) (h : History) (e : Event) (p b : ℕ) → ((q : ℕ) → frees q e.what ≡ nat_eq q p) →
+    cond (keeps_block b w (h ++ e ∷ [])) 1 0 + count_by (nat_eq b) (kept_block p w h) ≡ cond (keeps_block b w h) 1 0
+part_one (Alloc q c) h e p b f =
     elim (eqb_tells p q) [
       | inl y ↦
-          let is_live : f q ≡ true = ap f (sym y.1) ∙ live in
-          let is_gone : g q ≡ false = rest q ∙ ap (λ v. f q && not v) (eq-eqb q p (sym y.1)) ∙ and-false (f q) in
-          ap (λ v. cond (nat_eq b c && v) 1 0) is_live
-          ∙ whole (nat_eq b c)
-          ∙ ap (λ v. cond (nat_eq b c && v) 1 0 + cond (true && nat_eq b c) 1 0) (sym is_gone)
-          ∙ ap (λ v. cond (nat_eq b c && g q) 1 0 + cond (v && nat_eq b c) 1 0) (sym y.0)
+          let gone : some_event (frees q) (h ++ e ∷ []) ≡ true = freed_now q h e (f q ∙ eq-eqb q p (sym y.1)) in
+          ap (λ v. cond (nat_eq b c && not v) 1 0 + count_by (nat_eq b) (kept_block p (Alloc q c) h)) gone
+          ∙ ap (λ v. cond (nat_eq b c && false) 1 0 + count_by (nat_eq b) (cond (v && not (some_event (frees p) h)) (c ∷ []) [])) y.0
+          ∙ whole (some_event (frees p) h)
+          ∙ ap (λ r. cond (nat_eq b c && not (some_event (frees r) h)) 1 0) y.1
       | inr y ↦
-          let stays : g q ≡ f q = rest q ∙ ap (λ v. f q && not v) (ne_eqb q p (λ s. y.1 (sym s))) ∙ and-true (f q) in
-          ap (λ v. cond (nat_eq b c && v) 1 0) (sym stays)
-          ∙ none (cond (nat_eq b c && g q) 1 0)
-          ∙ ap (λ v. cond (nat_eq b c && g q) 1 0 + cond (v && nat_eq b c) 1 0) (sym y.0)
+          let stays : some_event (frees q) (h ++ e ∷ []) ≡ some_event (frees q) h = some_same (frees q) h e (f q ∙ ne_eqb q p (λ s. y.1 (sym s))) in
+          ap (λ v. cond (nat_eq b c && not v) 1 0 + count_by (nat_eq b) (kept_block p (Alloc q c) h)) stays
+          ∙ ap (λ v. cond (nat_eq b c && not (some_event (frees q) h)) 1 0 + count_by (nat_eq b) (cond (v && not (some_event (frees p) h)) (c ∷ []) [])) y.0
+          ∙ plain (cond (nat_eq b c && not (some_event (frees q) h)) 1 0)
     ]
   where
-    whole : (v : Bool) → cond (v && true) 1 0 ≡ cond (v && false) 1 0 + cond (true && v) 1 0
-    whole true = refl
-    whole false = refl
+    plain : (n : ℕ) → n + 0 ≡ n
+    plain n = omega arith
 
-    none : (n : ℕ) → n ≡ n + 0
-    none n = omega arith
-part_one f g p b live rest w = refl
+    sums : (a b c d : ℕ) → a ≡ 0 → b ≡ c + 0 → d ≡ c → a + b ≡ d
+    sums a b c d e f g = omega arith
 
--- what all hold is what the others hold and what the page holds
-held_part : (f g : ℕ → Bool) (p b : ℕ) → f p ≡ true → ((q : ℕ) → g q ≡ (f q && not (nat_eq q p))) → (h : History) →
-    count_of (holds_one f b) h ≡ count_of (holds_one g b) h + count_of (places p b) h
-unfolding count_of
-held_part f g p b live rest [] = refl
-held_part f g p b live rest (e ∷ h) =
-    let here : cond (holds_one f b e.what) 1 0 ≡ cond (holds_one g b e.what) 1 0 + cond (places p b e.what) 1 0 = part_one f g p b live rest e.what in
-    let there : count_by (λ (x : Event). holds_one f b x.what) h ≡ count_by (λ (x : Event). holds_one g b x.what) h + count_by (λ (x : Event). places p b x.what) h = held_part f g p b live rest h in
-    let sf : count_by (λ (x : Event). holds_one f b x.what) (e ∷ h) ≡ cond (holds_one f b e.what) 1 0 + count_by (λ (x : Event). holds_one f b x.what) h = count-cons (λ (x : Event). holds_one f b x.what) e h in
-    let sg : count_by (λ (x : Event). holds_one g b x.what) (e ∷ h) ≡ cond (holds_one g b e.what) 1 0 + count_by (λ (x : Event). holds_one g b x.what) h = count-cons (λ (x : Event). holds_one g b x.what) e h in
-    let sp : count_by (λ (x : Event). places p b x.what) (e ∷ h) ≡ cond (places p b e.what) 1 0 + count_by (λ (x : Event). places p b x.what) h = count-cons (λ (x : Event). places p b x.what) e h in
-    sums _ _ _ _ _ _ _ _ _ sf sg sp here there
-  where
-    sums : (a b c d e f x y z : ℕ) → x ≡ a + d → y ≡ b + e → z ≡ c + f → a ≡ b + c → d ≡ e + f → x ≡ y + z
-    sums a b c d e f x y z p q r s t = omega arith
+    whole : (s : Bool) → cond (nat_eq b c && false) 1 0 + count_by (nat_eq b) (cond (true && not s) (c ∷ []) []) ≡ cond (nat_eq b c && not s) 1 0
+    whole true = plain (cond (nat_eq b c && false) 1 0)
+    whole false =
+        let none : cond (nat_eq b c && false) 1 0 ≡ 0 = ap (λ v. cond v 1 0) (and-false (nat_eq b c)) in
+        let one : cond (nat_eq b c && true) 1 0 ≡ cond (nat_eq b c) 1 0 = ap (λ v. cond v 1 0) (and-true (nat_eq b c)) in
+        sums _ _ _ _ none (count-cons (nat_eq b) c []) one
+part_one w h e p b f = let n : ℕ = cond (keeps_block b w h) 1 0 in let r : n + 0 ≡ n = omega arith in r
 
--- one more block of a page's list
-block_one : (p b : ℕ) (bs : List ℕ) (w : What) → count_by (nat_eq b) (with_its_block p bs w) ≡ cond (places p b w) 1 0 + count_by (nat_eq b) bs
-block_one p b bs (Alloc q c) = go (nat_eq p q) where
-  go : (v : Bool) → count_by (nat_eq b) (cond v (c ∷ bs) bs) ≡ cond (v && nat_eq b c) 1 0 + count_by (nat_eq b) bs
-  go true = count-cons (nat_eq b) c bs
-  go false = omega arith
-block_one p b bs w = omega arith
-
--- how often a block stands among those of a page, after some
-blocks_after : (p b : ℕ) (bs : List ℕ) (h : History) → count_by (nat_eq b) (fold (λ xs (e : Event). with_its_block p xs e.what) bs h) ≡ count_by (nat_eq b) bs + count_of (places p b) h
-unfolding count_of
-blocks_after p b bs [] = omega arith
-blocks_after p b bs (e ∷ h) =
-    let here : count_by (nat_eq b) (with_its_block p bs e.what) ≡ cond (places p b e.what) 1 0 + count_by (nat_eq b) bs = block_one p b bs e.what in
-    let sp : count_by (λ (x : Event). places p b x.what) (e ∷ h) ≡ cond (places p b e.what) 1 0 + count_by (λ (x : Event). places p b x.what) h = count-cons (λ (x : Event). places p b x.what) e h in
-    blocks_after p b (with_its_block p bs e.what) h ∙ sums _ _ _ _ _ here sp
-  where
-    sums : (a b c d e : ℕ) → a ≡ b + c → d ≡ b + e → a + e ≡ c + d
-    sums a b c d e p q = omega arith
-
--- a block stands among a page's as often as the page was allocated there
-pub blocks_counted : (h : History) (p b : ℕ) → count_by (nat_eq b) (blocks_of h p) ≡ count_of (places p b) h
-unfolding blocks_of
-blocks_counted h p b = blocks_after p b [] h ∙ (let n : ℕ = count_of (places p b) h in omega arith)
-
--- when a page is freed its blocks are held less
-pub held_without : (h : History) (e : Event) (p b : ℕ) → freed_page e.what ≡ Some p → is_alloc e.what ≡ false → is_unfreed h p ≡ true →
+-- when a page is freed its blocks have fewer holders
+pub held_without : (h : History) (e : Event) (p b : ℕ) → ((q : ℕ) → frees q e.what ≡ nat_eq q p) → is_alloc e.what ≡ false →
     times_held (h ++ e ∷ []) b + count_by (nat_eq b) (blocks_of h p) ≡ times_held h b
-held_without h e p b f n u =
-    let more : times_held (h ++ e ∷ []) b ≡ count_of (holds_one (is_unfreed (h ++ e ∷ [])) b) h =
-    count_of_push (holds_one (is_unfreed (h ++ e ∷ [])) b) h e ∙ nothing _ _ (no_block (is_unfreed (h ++ e ∷ [])) b e.what n) in
-    let parts : times_held h b ≡ count_of (holds_one (is_unfreed (h ++ e ∷ [])) b) h + count_of (places p b) h =
-    held_part (is_unfreed h) (is_unfreed (h ++ e ∷ [])) p b u (λ q. unfreed_without h e q p f) h in
-    let its : count_by (nat_eq b) (blocks_of h p) ≡ count_of (places p b) h = blocks_counted h p b in
-    sums _ _ _ _ _ more parts its
-  where
-    sums : (a b c d e : ℕ) → a ≡ b → c ≡ b + d → e ≡ d → a + e ≡ c
-    sums a b c d e p q r = omega arith
+unfolding times_held blocks_of
+held_without [] e p b f n = none (keeps_block b e.what []) (no_holder b e.what [] n) where
+  none : (v : Bool) → v ≡ false → (cond v 1 0 + 0) + 0 ≡ 0
+  none true y = absurd (cc)
+  none false y = refl
+held_without (x ∷ h) e p b f n =
+    sums _ _ _ _ _ _ (part_one x.what h e p b f) (held_without h e p b f n) _ (sum_by-append (λ i. cond (nat_eq b i) 1 0) (blocks_of h p) (kept_block p x.what h)) where
+      sums : (a b c d e l : ℕ) → a + b ≡ c → d + e ≡ l → (m : ℕ) → m ≡ e + b → (a + d) + m ≡ c + l
+      sums a b c d e l f g m i = omega arith
 
--- an event that frees a page that was freed
-pub held_again : (h : History) (e : Event) (p b : ℕ) → freed_page e.what ≡ Some p → is_alloc e.what ≡ false → is_unfreed h p ≡ false → times_held (h ++ e ∷ []) b ≡ times_held h b
-held_again h e p b f n u =
-    count_of_push (holds_one (is_unfreed (h ++ e ∷ [])) b) h e
-    ∙ nothing _ _ (no_block (is_unfreed (h ++ e ∷ [])) b e.what n)
-    ∙ held_alike (is_unfreed (h ++ e ∷ [])) (is_unfreed h) b h (λ q. unfreed_without h e q p f ∙ same q)
-  where
-    same : (q : ℕ) → (is_unfreed h q && not (nat_eq q p)) ≡ is_unfreed h q
-    same q =
-        elim (eqb_tells q p) [
-          | inl y ↦ ap (λ v. v && not (nat_eq q p)) (ap (is_unfreed h) y.1 ∙ u) ∙ sym (ap (is_unfreed h) y.1 ∙ u)
-          | inr y ↦ ap (λ v. is_unfreed h q && not v) y.0 ∙ and-true (is_unfreed h q)
-        ]
-
--- pages of a part of the history are live where they aren't freed
-live_part : (h k : History) (b : ℕ) → ((p : ℕ) → some_event (allocates p) k ≡ true → some_event (allocates p) h ≡ true) →
-    some_event (places_live h b) k ≡ some_event (holds_one (is_unfreed h) b) k
-unfolding some_event
-live_part h [] b f = refl
-live_part h (e ∷ k) b f =
-    ap (λ v. v || some_event (places_live h b) k) (one e.what (λ p s. f p (or_first _ _ s)))
-    ∙ ap (λ v. holds_one (is_unfreed h) b e.what || v) (live_part h k b (λ p s. f p (or_second (allocates p e.what) _ s)))
-  where
-    one : (w : What) → ((p : ℕ) → allocates p w ≡ true → some_event (allocates p) h ≡ true) → places_live h b w ≡ holds_one (is_unfreed h) b w
-    one (Alloc p c) g = ap (λ v. nat_eq b c && (v && is_unfreed h p)) (g p (eq-eqb p p refl))
-    one w g = refl
-
--- none passes exactly where the count is 0
-none_counted : {X : Type 0} (t : X → Bool) (xs : List X) → not (list_any t xs) ≡ nat_eq (count_by t xs) 0
-none_counted t xs = grind (arith, nat_eq, count_by, ne_eqb, count_any, eq-eqb)
-
--- a block is free exactly where it is held by none
-pub free_is : (h : History) (b : ℕ) → not (block_in_use h b) ≡ nat_eq (times_held h b) 0
-unfolding some_event count_of
-free_is h b = ap not (live_part h h b (λ p s. s)) ∙ none_counted (λ (e : Event). holds_one (is_unfreed h) b e.what) h
+-- a block is free exactly where it has no holder
+pub free_is : (h : History) (b : ℕ) → not (is_block_held h b) ≡ nat_eq (times_held h b) 0
+unfolding is_block_held times_held
+free_is [] b = refl
+free_is (e ∷ h) b = go (keeps_block b e.what h) (is_block_held h b) (times_held h b) (free_is h b) where
+  go : (k held : Bool) (n : ℕ) → not held ≡ nat_eq n 0 → not (k || held) ≡ nat_eq (cond k 1 0 + n) 0
+  go true held n f = sym (ne_eqb (1 + n) 0 (λ e. absurd (omega arith)))
+  go false held n f = f ∙ ap (λ m. nat_eq m 0) (sym (zero-add n))

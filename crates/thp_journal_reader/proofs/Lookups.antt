@@ -1,11 +1,9 @@
--- What is known of each page after a write.
+-- The last allocation of each page after a write.
 use Rattle.std.proofs.Common.{◌≡◌, ℕ, suc, zero, ◌<◌, ◌≤◌, Bool, true, false, cond, List, [], ◌∷◌, ◌++◌, length, set, get_or, refl, ap, sym, ◌∙◌, arith, nat_eq, nat_lt, eq-eqb, ne_eqb, Option, Some, None, slice_get, nat_cmp, is_eq, ltb-false, ltb-true, eqb-true}
 use Rattle.std.proofs.lemmas.Option.{slice_get_past, slice_get-get_or}
 use Rattle.std.proofs.lemmas.Bool.Decides.{eqb_tells}
-use Rattle.thp_journal_reader.specs.declared.page_blocks.PageRecord.{PageRecord}
-use Rattle.thp_journal_reader.specs.declared.page_blocks.PageRecord.TheVariants.{Holds}
-use Rattle.thp_journal_reader.specs.declared.page_blocks.Pages.{Pages}
-use Rattle.thp_journal_reader.specs.PageRecord.{first_known, known_of}
+use Rattle.thp_journal_reader.specs.declared.page_blocks.LastAllocations.{LastAllocations}
+use Rattle.thp_journal_reader.specs.LastAllocations.{first_entry, last_allocation}
 use Rattle.std.proofs.lemmas.Bool.{cases_lt}
 use Rattle.std.specs.BTreeMap.{get}
 
@@ -48,62 +46,62 @@ get-last [] v = refl
 get-last (x ∷ xs) v = get-last xs v
 
 -- a lookup whose first place was changed
-pub known_first : (b : Bool) (k : PageRecord) (o other : Option PageRecord) → first_known (cond b (Some k) o) other ≡ cond b k (first_known o other)
-known_first x k o other = grind arith
+pub entry_first : (b : Bool) (k : Option ℕ) (o other : Option (Option ℕ)) → first_entry (cond b (Some k) o) other ≡ cond b k (first_entry o other)
+entry_first x k o other = grind arith
 
 -- a lookup whose second place was changed
-pub known_second : (b : Bool) (k : PageRecord) (o other : Option PageRecord) → (b ≡ true → o ≡ None) → first_known o (cond b (Some k) other) ≡ cond b k (first_known o other)
-known_second x k o other f = grind arith
+pub entry_second : (b : Bool) (k : Option ℕ) (o other : Option (Option ℕ)) → (b ≡ true → o ≡ None) → first_entry o (cond b (Some k) other) ≡ cond b k (first_entry o other)
+entry_second x k o other f = grind arith
 
 -- the map finds the number that was put in
 pub at_number : (p q : ℕ) → is_eq (nat_cmp p q) ≡ nat_eq q p
 at_number p q = grind (arith, eqb_tells, is_eq, cases_lt)
 
 -- an element that a lookup found
-found_at : (xs : List PageRecord) (i : ℕ) (x : PageRecord) → true ≡ nat_lt i (length xs) → x ≡ get_or xs i x → slice_get xs i ≡ Some x
+found_at : (xs : List (Option ℕ)) (i : ℕ) (x : Option ℕ) → true ≡ nat_lt i (length xs) → x ≡ get_or xs i x → slice_get xs i ≡ Some x
 found_at xs i x t e = slice_get-get_or xs i x (ltb-true i (length xs) (sym t)) ∙ ap (λ y. Some y) (sym e)
 
 -- none at a place behind the list
-none_at : (xs : List PageRecord) (i : ℕ) → false ≡ nat_lt i (length xs) → slice_get xs i ≡ None
+none_at : (xs : List (Option ℕ)) (i : ℕ) → false ≡ nat_lt i (length xs) → slice_get xs i ≡ None
 none_at xs i t = slice_get_past xs i (ltb-false i (length xs) (sym t))
 
--- what is known of a page among the first ones
-pub known_dense : (ps : Pages) (xs : List PageRecord) (i p : ℕ) (x : PageRecord) → xs ≡ ps.dense.items → i ≡ p → true ≡ nat_lt i (length xs) → x ≡ get_or xs i x → x ≡ known_of ps p
-unfolding known_of
-known_dense ps xs i p x same e t f = grind (arith, nat_cmp, slice_get, found_at)
+-- the last allocation of a page among the first ones
+pub last_dense : (ps : LastAllocations) (xs : List (Option ℕ)) (i p : ℕ) (x : Option ℕ) → xs ≡ ps.dense.items → i ≡ p → true ≡ nat_lt i (length xs) → x ≡ get_or xs i x → x ≡ last_allocation ps p
+unfolding last_allocation
+last_dense ps xs i p x same e t f = grind (arith, nat_cmp, slice_get, found_at)
 
 -- of another page
-known_other : (ps : Pages) (xs : List PageRecord) (i p : ℕ) (o : Option PageRecord) → xs ≡ ps.dense.items → i ≡ p → false ≡ nat_lt i (length xs) → o ≡ get nat_cmp ps.others i → first_known None o ≡ known_of ps p
-unfolding known_of
-known_other ps xs i p o same e t f = grind (arith, nat_cmp, slice_get, none_at)
+last_other : (ps : LastAllocations) (xs : List (Option ℕ)) (i p : ℕ) (o : Option (Option ℕ)) → xs ≡ ps.dense.items → i ≡ p → false ≡ nat_lt i (length xs) → o ≡ get nat_cmp ps.others i → first_entry None o ≡ last_allocation ps p
+unfolding last_allocation
+last_other ps xs i p o same e t f = grind (arith, nat_cmp, slice_get, none_at)
 
 -- that was named
-pub known_named : (ps : Pages) (xs : List PageRecord) (i p : ℕ) (x : PageRecord) → xs ≡ ps.dense.items → i ≡ p → false ≡ nat_lt i (length xs) → Some x ≡ get nat_cmp ps.others i → x ≡ known_of ps p
-known_named ps xs i p x = known_other ps xs i p (Some x)
+pub last_named : (ps : LastAllocations) (xs : List (Option ℕ)) (i p : ℕ) (x : Option ℕ) → xs ≡ ps.dense.items → i ≡ p → false ≡ nat_lt i (length xs) → Some x ≡ get nat_cmp ps.others i → x ≡ last_allocation ps p
+last_named ps xs i p x = last_other ps xs i p (Some x)
 
 -- that wasn't
-pub known_unnamed : (ps : Pages) (xs : List PageRecord) (i p : ℕ) → xs ≡ ps.dense.items → i ≡ p → false ≡ nat_lt i (length xs) → None ≡ get nat_cmp ps.others i → Holds None ≡ known_of ps p
-known_unnamed ps xs i p = known_other ps xs i p None
+pub last_unnamed : (ps : LastAllocations) (xs : List (Option ℕ)) (i p : ℕ) → xs ≡ ps.dense.items → i ≡ p → false ≡ nat_lt i (length xs) → None ≡ get nat_cmp ps.others i → None ≡ last_allocation ps p
+last_unnamed ps xs i p = last_other ps xs i p None
 
 -- a write among the first ones
-pub known_set : (ps qs : Pages) (i p : ℕ) (v : PageRecord) (q : ℕ) → i ≡ p → i < length ps.dense.items → qs.dense.items ≡ set ps.dense.items i v → qs.others.entries ≡ ps.others.entries →
-    known_of qs q ≡ cond (nat_eq q p) v (known_of ps q)
-unfolding known_of
-known_set ps qs i p v q e h d o = grind (arith, slice_get, nat_cmp, get-set, known_first, nat_eq, is_eq)
+pub last_set : (ps qs : LastAllocations) (i p : ℕ) (v : Option ℕ) (q : ℕ) → i ≡ p → i < length ps.dense.items → qs.dense.items ≡ set ps.dense.items i v → qs.others.entries ≡ ps.others.entries →
+    last_allocation qs q ≡ cond (nat_eq q p) v (last_allocation ps q)
+unfolding last_allocation
+last_set ps qs i p v q e h d o = grind (arith, slice_get, nat_cmp, get-set, entry_first, nat_eq, is_eq)
 
 -- one more behind them
-pub known_push : (ps qs : Pages) (i p : ℕ) (v : PageRecord) (q : ℕ) → i ≡ p → i ≡ length ps.dense.items → qs.dense.items ≡ ps.dense.items ++ v ∷ [] → qs.others.entries ≡ ps.others.entries →
-    known_of qs q ≡ cond (nat_eq q p) v (known_of ps q)
-unfolding known_of
-known_push ps qs i p v q e h d o = grind (arith, slice_get, nat_cmp, get-push, known_first, nat_eq, is_eq)
+pub last_push : (ps qs : LastAllocations) (i p : ℕ) (v : Option ℕ) (q : ℕ) → i ≡ p → i ≡ length ps.dense.items → qs.dense.items ≡ ps.dense.items ++ v ∷ [] → qs.others.entries ≡ ps.others.entries →
+    last_allocation qs q ≡ cond (nat_eq q p) v (last_allocation ps q)
+unfolding last_allocation
+last_push ps qs i p v q e h d o = grind (arith, slice_get, nat_cmp, get-push, entry_first, nat_eq, is_eq)
 
 -- a write in the map
-pub known_insert : (ps qs : Pages) (i p : ℕ) (v : PageRecord) (q : ℕ) → i ≡ p → length ps.dense.items ≤ i → qs.dense.items ≡ ps.dense.items →
-    get nat_cmp qs.others q ≡ cond (is_eq (nat_cmp i q)) (Some v) (get nat_cmp ps.others q) → known_of qs q ≡ cond (nat_eq q p) v (known_of ps q)
-unfolding known_of
-known_insert ps qs i p v q e h d o = grind (arith, slice_get, nat_cmp, at_number, known_second, nat_eq, slice_get_past, eqb-true)
+pub last_insert : (ps qs : LastAllocations) (i p : ℕ) (v : Option ℕ) (q : ℕ) → i ≡ p → length ps.dense.items ≤ i → qs.dense.items ≡ ps.dense.items →
+    get nat_cmp qs.others q ≡ cond (is_eq (nat_cmp i q)) (Some v) (get nat_cmp ps.others q) → last_allocation qs q ≡ cond (nat_eq q p) v (last_allocation ps q)
+unfolding last_allocation
+last_insert ps qs i p v q e h d o = grind (arith, slice_get, nat_cmp, at_number, entry_second, nat_eq, slice_get_past, eqb-true)
 
 -- nothing written
-pub known_stays : (ps qs : Pages) (q : ℕ) → qs.dense.items ≡ ps.dense.items → qs.others.entries ≡ ps.others.entries → known_of qs q ≡ known_of ps q
-unfolding known_of
-known_stays ps qs q d o = grind (arith, slice_get, nat_cmp, is_eq)
+pub last_stays : (ps qs : LastAllocations) (q : ℕ) → qs.dense.items ≡ ps.dense.items → qs.others.entries ≡ ps.others.entries → last_allocation qs q ≡ last_allocation ps q
+unfolding last_allocation
+last_stays ps qs q d o = grind (arith, slice_get, nat_cmp, is_eq)

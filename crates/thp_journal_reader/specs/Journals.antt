@@ -38,7 +38,7 @@ node_events (Happened event ∷ lines) = event ∷ node_events lines
 node_events (Node number shape ∷ lines) = []
 node_events (_ ∷ lines) = node_events lines
 
--- a node whose events begin on this line; each new page has the least block that holds no live page
+-- a node whose events begin on this line; each new page has the least block that no page holds
 abbrev pub node_journal : ℕ → Shape → History → ReadNode
 node_journal first_line shape events = record { shape = shape; first_line = first_line; events = with_least_blocks shape events }
 

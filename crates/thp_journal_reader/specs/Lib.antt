@@ -1,4 +1,4 @@
-pub mod PageRecord
+pub mod LastAllocations
 pub mod Chains
 pub mod HeldBlocks
 pub mod Freeing

@@ -14,9 +14,9 @@ unfoldable pub use Rattle.thp_journal_reader.specs.JournalLines.{head_of, line_b
 pub use Rattle.thp_journal_reader.specs.Journals.{AreJournals, IsNodeJournal, end_of_text, journals_of, node_events, node_journal, nodes_of}
 unfoldable pub use Rattle.thp_journal_reader.specs.Journals.{journals_with, journals_within, lines_from}
 pub use Rattle.thp_journal_reader.specs.Keeping.{KeepsNothing}
+unfoldable pub use Rattle.thp_journal_reader.specs.LastAllocations.{last_allocation}
 pub use Rattle.thp_journal_reader.specs.Later.{follows_later, reads_later}
 pub use Rattle.thp_journal_reader.specs.LineRanges.{IsLineInRange}
-unfoldable pub use Rattle.thp_journal_reader.specs.PageRecord.{known_of}
 pub use Rattle.thp_journal_reader.specs.Parts.{JournalReadSoFar, journals_in, result_with, so_far, with_lines}
 unfoldable pub use Rattle.thp_journal_reader.specs.Parts.{result_of_lines}
 pub use Rattle.thp_journal_reader.specs.ReadTexts.{HasReadText, more_text_read, no_text_read}

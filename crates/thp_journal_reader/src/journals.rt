@@ -19,7 +19,7 @@ pub struct ReadNode {
     pub shape: Shape,
     /// The line of the first event, counted from 1; the event at index i is on line `first_line + i`.
     pub first_line: u32,
-    /// The events, in order. Each allocation has the least block that holds no live page.
+    /// The events, in order. Each allocation has the least block that no page holds.
     pub events: Sequence<Event>,
 }
 
@@ -33,7 +33,7 @@ pub struct ReadJournals {
 /// Parses journals, or returns the first error of the text.
 ///
 /// The text is read once, from its start to its first error. Journals contain no blocks: each allocation gets the least block
-/// that holds no live page.
+/// that no page holds; a page holds its block from its allocation to the next event that frees it.
 pub fn read_journal(alloc: Global, text: &[u8]) -> Result<ReadJournals, ReadFault>
     ensures journals { IfOk result (λ journals. journals_of text.now ≡ Ok journals) }
     ensures in_range { IfOk result AreJournals }

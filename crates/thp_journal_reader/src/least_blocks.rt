@@ -4,17 +4,17 @@ ghost use Rattle.thp_journal_reader.specs.Freeing.{freed_page, IsInside};
 ghost use Rattle.thp_journal_reader.specs.BlocksState.{blocks_with};
 ghost use Rattle.thp_history.specs.Prelude.{event_with, least_free};
 
-use crate::page_blocks::{BlockHolders, PageBlocks, PageRecord};
+use crate::page_blocks::{BlockHolders, PageBlocks};
 use std::alloc::{AllocError, Global};
 use std::marker::Model;
 use thp_history::{Event, PageId, Shape, Trace, What};
 use thp_live_pages::freed_page;
 
-/// Follows a node's events and chooses the blocks of their allocations: each page gets the least block that holds no live page,
-/// or block 0 if every block is held.
+/// Follows a node's events and chooses the blocks of their allocations: each page gets the least block that no page holds, or
+/// block 0 if every block is held.
 ///
-/// Contracts see the node's shape and the events so far, with their blocks. The events need not be legal. A page that is
-/// allocated twice holds both blocks until it is freed. A page that was freed never becomes live again, and holds no block.
+/// Contracts see the node's shape and the events so far, with their blocks. The events need not be legal: a page holds its block
+/// from the allocation to the next event that frees it. A page that is allocated twice holds both blocks until then.
 #[derive(Drop)]
 pub struct LeastBlocks {
     shape: Shape,
@@ -28,11 +28,11 @@ impl Model for LeastBlocks {
 
     ghost Value = { BlocksState };
 
-    ghost use Rattle.thp_journal_reader.specs.Prelude.{known_of, KeepsBlocks};
+    ghost use Rattle.thp_journal_reader.specs.Prelude.{last_allocation, KeepsBlocks};
 
     ghost view = { λ b. record { shape = b.shape; history = b.past } };
 
-    ghost invariant = { λ b. KeepsBlocks b.shape b.past b.holders (known_of b.pages.records) b.pages.allocations.items };
+    ghost invariant = { λ b. KeepsBlocks b.shape b.past b.holders (last_allocation b.pages.last) b.pages.allocations.items };
 }
 
 impl LeastBlocks {
@@ -104,12 +104,9 @@ impl LeastBlocks {
         ensures noted { OnOk result (self.new ≡ blocks_with self.old event.now) }
         ensures failed { OnErr result (self.new ≡ self.old) }
     {
-        if let PageRecord::Holds { last } = self.pages.records.known(page) {
-            self.pages.add(page, block, last)?;
-            self.holders.hold(block);
-            self.past.push(event);
-            return Ok(());
-        }
+        let before = self.pages.last.find(page);
+        self.pages.add(page, block, before)?;
+        self.holders.hold(block);
         self.past.push(event);
         Ok(())
     }
@@ -120,12 +117,13 @@ impl LeastBlocks {
         ensures noted { OnOk result (self.new ≡ blocks_with self.old event.now) }
         ensures failed { OnErr result (self.new ≡ self.old) }
     {
-        if let PageRecord::Holds { last } = self.pages.records.known(page) {
-            self.pages.records.set(page, PageRecord::Freed)?;
-            self.pages.give_back(last, &mut self.holders);
+        let last = self.pages.last.find(page);
+        if last.is_none() {
             self.past.push(event);
             return Ok(());
         }
+        self.pages.last.set(page, None)?;
+        self.pages.give_back(last, &mut self.holders);
         self.past.push(event);
         Ok(())
     }

@@ -1,6 +1,6 @@
 //! The blocks of each page.
 ghost use Rattle.std.specs.Prelude.{◌≡◌, ◌<◌, ◌≤◌, ◌+◌, ◌^◌, ℕ, List, [], ◌∷◌, ◌++◌, cond, nat_eq, count_by, length, slice_index, Some, OnOk, OnErr, ◌-◌, slice_set, replicate, IfOk};
-ghost use Rattle.thp_journal_reader.specs.Prelude.{known_of, IsAllocationChain, IsCovered};
+ghost use Rattle.thp_journal_reader.specs.Prelude.{last_allocation, IsAllocationChain, IsCovered};
 ghost use Rattle.thp_live_pages.specs.Prelude.{least_of};
 
 use std::alloc::{AllocError, Global};
@@ -9,7 +9,7 @@ use std::marker::Model;
 use thp_history::PageId;
 use thp_live_pages::FreeBlocks;
 
-// An allocation of a page that was not freed, and the preceding one of the same page.
+// An allocation of a page, and the preceding one of the same page since the page was last freed.
 #[derive(Clone, Copy)]
 pub(crate) struct Allocation {
     block: u32,
@@ -19,18 +19,18 @@ pub(crate) struct Allocation {
 // The blocks of each page: its allocations are linked from the last to the first.
 #[derive(Drop)]
 pub(crate) struct PageBlocks {
-    pub(crate) records: Pages,
+    pub(crate) last: LastAllocations,
     allocations: Vec<Allocation>,
 }
 
 impl PageBlocks {
     // No page has a block.
     pub(crate) fn new(alloc: Global) -> PageBlocks
-        ensures pages { (p : ℕ) → known_of result.records p ≡ PageRecord.Holds None }
+        ensures pages { (p : ℕ) → last_allocation result.last p ≡ None }
         ensures none { result.allocations.items ≡ [] }
     {
         PageBlocks {
-            records: Pages::new(alloc),
+            last: LastAllocations::new(alloc),
             allocations: Vec::new(alloc),
         }
     }
@@ -44,19 +44,16 @@ impl PageBlocks {
     ) -> Result<(), AllocError>
         ensures small { OnOk result (length self.new.allocations.items < 2 ^ 32) }
         ensures added { OnOk result (self.new.allocations.items ≡ self.old.allocations.items ++ record { block = block; before = before } ∷ []) }
-        ensures known { OnOk result ((p : ℕ) → known_of self.new.records p ≡ cond (nat_eq p page) (PageRecord.Holds (Some (length self.old.allocations.items))) (known_of self.old.records p)) }
+        ensures last { OnOk result ((p : ℕ) → last_allocation self.new.last p ≡ cond (nat_eq p page) (Some (length self.old.allocations.items)) (last_allocation self.old.last p)) }
         ensures failed { OnErr result (self.new.allocations.items ≡ self.old.allocations.items) }
-        ensures same { OnErr result ((p : ℕ) → known_of self.new.records p ≡ known_of self.old.records p) }
+        ensures same { OnErr result ((p : ℕ) → last_allocation self.new.last p ≡ last_allocation self.old.last p) }
     {
         let place = self.allocations.len();
         if place >= u32::MAX as usize {
             return Err(AllocError);
         }
         self.allocations.try_reserve(1)?;
-        let known = PageRecord::Holds {
-            last: Some(place as u32),
-        };
-        self.records.set(page, known)?;
+        self.last.set(page, Some(place as u32))?;
         self.allocations.push_reserved(Allocation { block, before });
         Ok(())
     }
@@ -76,68 +73,59 @@ impl PageBlocks {
     }
 }
 
-// What is known of a page.
-#[derive(Clone, Copy)]
-pub(crate) enum PageRecord {
-    // It was freed, and holds nothing afterwards.
-    Freed,
-    // It was not freed, and holds the blocks of its allocations: `last` is the index of the last one, if any.
-    Holds { last: Option<u32> },
-}
-
-// What is known of each page, by number. A page that was not named yet holds no block.
+// The index of each page's last allocation since it was last freed, by page number. A page without an entry has none.
 #[derive(Drop)]
-pub(crate) struct Pages {
+pub(crate) struct LastAllocations {
     // the pages from 0 on: these are all, if numbers are assigned consecutively
-    dense: Vec<PageRecord>,
+    dense: Vec<Option<u32>>,
     // other pages; an entry is out of date if `dense` has the page too
-    others: BTreeMap<u64, PageRecord>,
+    others: BTreeMap<u64, Option<u32>>,
 }
 
-impl Pages {
-    // No page was named.
-    pub(crate) fn new(alloc: Global) -> Pages
-        ensures { (p : ℕ) → known_of result p ≡ PageRecord.Holds None }
+impl LastAllocations {
+    // No page has an allocation.
+    pub(crate) fn new(alloc: Global) -> LastAllocations
+        ensures { (p : ℕ) → last_allocation result p ≡ None }
     {
-        Pages {
+        LastAllocations {
             dense: Vec::new(alloc),
             others: BTreeMap::new(alloc),
         }
     }
 
-    // What is known of a page.
-    #[tactic(auto, using(crate::proofs::Lookups::known_dense, crate::proofs::Lookups::known_named, crate::proofs::Lookups::known_unnamed))]
-    pub(crate) fn known(&self, page: PageId) -> PageRecord
-        ensures { result ≡ known_of self.now page }
+    // Returns the last allocation of a page.
+    #[tactic(auto, using(crate::proofs::Lookups::last_dense, crate::proofs::Lookups::last_named, crate::proofs::Lookups::last_unnamed))]
+    pub(crate) fn find(&self, page: PageId) -> Option<u32>
+        ensures { result ≡ last_allocation self.now page }
     {
-        if let Some(known) = self.dense.get(page.0 as usize) {
-            return *known;
+        if let Some(last) = self.dense.get(page.0 as usize) {
+            return *last;
         }
-        let known = self.others.get(&page.0).copied();
-        known.unwrap_or(PageRecord::Holds { last: None })
+        let last = self.others.get(&page.0).copied();
+        last.unwrap_or(None)
     }
 
-    // Sets what is known of the page. Fails if memory can't be allocated, and then changes nothing.
-    #[tactic(auto, using(crate::proofs::Lookups::known_set, crate::proofs::Lookups::known_push, crate::proofs::Lookups::known_stays))]
-    pub(crate) fn set(&mut self, page: PageId, known: PageRecord) -> Result<(), AllocError>
-        ensures done { OnOk result ((p : ℕ) → known_of self.new p ≡ cond (nat_eq p page) known (known_of self.old p)) }
-        ensures failed { OnErr result ((p : ℕ) → known_of self.new p ≡ known_of self.old p) }
+    // Sets the last allocation of the page. Fails if memory can't be allocated, and then changes nothing.
+    #[tactic(auto, using(crate::proofs::Lookups::last_set, crate::proofs::Lookups::last_push, crate::proofs::Lookups::last_stays))]
+    pub(crate) fn set(&mut self, page: PageId, last: Option<u32>) -> Result<(), AllocError>
+        ensures done { OnOk result ((p : ℕ) → last_allocation self.new p ≡ cond (nat_eq p page) last (last_allocation self.old p)) }
+        ensures failed { OnErr result ((p : ℕ) → last_allocation self.new p ≡ last_allocation self.old p) }
     {
         let place = page.0 as usize;
         if place < self.dense.len() {
-            self.dense[place] = known;
+            self.dense[place] = last;
             return Ok(());
         }
         if place == self.dense.len() {
-            self.dense.push(known)?;
+            self.dense.push(last)?;
             return Ok(());
         }
-        self.others.insert(page.0, known)?;
+        self.others.insert(page.0, last)?;
         Ok(())
     }
 }
 
-// The number of holders of each block: the allocations there whose page was not freed. Contracts see the list of these numbers.
+// The number of holders of each block: the allocations there whose page was not freed since. Contracts see the list of these numbers.
 #[derive(Drop)]
 pub(crate) struct BlockHolders {
     counts: Vec<u32>,

@@ -23,7 +23,7 @@ pub record AreReportable (journals : List Journal) : Type 0 where
   pub short : length (journal_text journals) ≤ max_input
 
 -- each journal with its shape and its first line, if the line of the first node is line `line`; each new page has the least block
--- that holds no live page
+-- that no page holds
 abbrev pub nodes_from : ℕ → List Journal → List ReadNode
 nodes_from line [] = []
 nodes_from line (journal ∷ journals) = node_journal (line + 1) journal.0 journal.1 ∷ nodes_from (line + 1 + length journal.1) journals

@@ -9,7 +9,7 @@ use Rattle.thp_cli.specs.declared.calls.DeviceCall.{DeviceCall}
 use Rattle.thp_run.specs.InParts.{HasBegun}
 use Rattle.thp_run.proofs.BegunRunLaws.{begun_all, begun_nodes, starts_new}
 use Rattle.thp_worker.specs.declared.reply.SectionOutcome.{SectionOutcome}
-use Rattle.thp_worker.specs.Prelude.{fronts_in, Passes}
+use Rattle.thp_run.specs.Passes.{fronts_in, Passes}
 use Rattle.thp_worker.proofs.StepLaws.{goes_trans}
 use Rattle.thp_script.specs.declared.script.ScriptSections.{ScriptSections}
 use Rattle.thp_script.specs.declared.settings.Settings.{Settings}

@@ -9,7 +9,8 @@ use Rattle.thp_script.specs.Prelude.{after_setup, IsScriptFor, max_nodes}
 use Rattle.thp_worker.specs.declared.reply.SectionOutcome.{SectionOutcome}
 use Rattle.thp_worker.specs.declared.reply.SectionLog.{SectionLog}
 use Rattle.thp_worker.specs.declared.reply.SectionOutcome.{SectionOutcome}
-use Rattle.thp_worker.specs.Prelude.{Fronts, Goes, HoldsAllCallers, DidFirst, fronts_in, Agree, Passes, Works}
+use Rattle.thp_worker.specs.Prelude.{Fronts, Goes, HoldsAllCallers, DidFirst, Works}
+use Rattle.thp_run.specs.Passes.{fronts_in, Agree, Passes}
 use Rattle.thp_worker.proofs.StepLaws.{goes_trans}
 use Rattle.thp_run.specs.InParts.{AreNew, HasBegun, StartsOn}
 use Rattle.thp_run.specs.Sections.{IsNew, IsSetUp, RunsTo}

@@ -5,6 +5,9 @@ pub mod TotalsLaws
 pub mod RunLaws
 pub mod RestLaws
 pub mod NodeLaws
+pub mod PassLaws
+pub mod EachLaws
+pub mod Crosses
 pub mod SharingLaws
 pub mod BegunRunLaws
 pub mod PassageLaws

@@ -14,7 +14,8 @@ use Rattle.thp_script.specs.declared.settings.Settings.{Settings}
 use Rattle.thp_script.specs.Prelude.{FitsBatch, max_nodes, max_workers, IsScriptFor}
 use Rattle.thp_script.specs.Commands as text
 use Rattle.thp_worker.specs.declared.reply.SectionLog.{SectionLog}
-use Rattle.thp_worker.specs.Prelude.{IsFit, Fronts, Held, Agree, Passes, batch_in, cell_in, front_in, fronts_in, fronts_of, shape_in, IsWorkFor}
+use Rattle.thp_worker.specs.Prelude.{IsFit, Fronts, Held, IsWorkFor}
+use Rattle.thp_run.specs.Passes.{Agree, Passes, batch_in, cell_in, front_in, fronts_in, fronts_of, shape_in}
 use Rattle.thp_run.specs.NewNodes.{AreNodesFor, histories_of, journal_in, shapes_of}
 use Rattle.thp_run.specs.NewNodes as new
 use Rattle.thp_run.specs.InParts.{AreNew}

@@ -5,7 +5,8 @@ use Rattle.thp_cell.specs.Prelude.{PassState}
 use Rattle.thp_script.specs.declared.script.Command.{Command}
 use Rattle.thp_script.specs.declared.settings.Settings.{Settings}
 use Rattle.thp_worker.specs.declared.reply.SectionOutcome.{SectionOutcome}
-use Rattle.thp_worker.specs.Prelude.{Fronts, Goes, Held, DidFirst, fronts_in}
+use Rattle.thp_worker.specs.Prelude.{Fronts, Goes, Held, DidFirst}
+use Rattle.thp_run.specs.Passes.{fronts_in}
 use Rattle.thp_run.specs.NewNodes.{new_shape}
 use Rattle.thp_run.specs.Sharing.{cell_of, IsFreshPass, IsUnused, Pairs}
 

@@ -8,6 +8,7 @@ pub mod Runs
 pub mod Sections
 pub mod Comparing
 pub mod Sharing
+pub mod Passes
 pub mod InParts
 pub mod Programs
 pub mod Choices

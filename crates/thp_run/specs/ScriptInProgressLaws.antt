@@ -3,7 +3,8 @@ use Rattle.std.proofs.Common.{◌≡◌, ◌∙◌, ℕ, List, [], ◌++◌, Ok,
 use Rattle.std.specs.Prelude.{Result}
 use Rattle.std.proofs.lemmas.List.{append-nil}
 use Rattle.thp_worker.specs.declared.reply.SectionOutcome.{SectionOutcome}
-use Rattle.thp_worker.specs.Prelude.{DidFirst, fronts_in, Passes}
+use Rattle.thp_worker.specs.Prelude.{DidFirst}
+use Rattle.thp_run.specs.Passes.{fronts_in, Passes}
 use Rattle.thp_worker.proofs.StepLaws.{goes_refl, goes_trans}
 use Rattle.thp_script.specs.declared.script.Command.{Command}
 use Rattle.thp_script.specs.declared.script.ScriptSections.{ScriptSections}

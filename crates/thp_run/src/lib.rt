@@ -8,6 +8,7 @@
 //! - `script_run`: a run of a script in memory, or of one whose `setup` arrives in parts, none of which is stored (`InParts`,
 //!   proof `BegunRunLaws`), on new nodes in cells (`NewNodes`), by passes with all callers (`Sharing`). `do_rest`: postponed
 //!   commands, workers ascending. `script_in_progress` (`ScriptInProgress`): `setup` is done as it is read.
+//! - `node_passes` (`Passes`, proofs `PassLaws`, `EachLaws`): a pass of each node; `Crosses`: it may go to other threads.
 //! - `report`, `answers`: a report as text, a function of the nodes' shapes and histories and of the sections' answers:
 //!   `report_of` (`Reports`), over `Answers`, and `Totals` and `Journals` of `thp_journal_writer`. No block appears in it (`Laws`).
 //!   `AnswerParts` (`Parts`, proof `PartLaws`): the answers part by part from one buffer; `line_room` bounds a line.
@@ -20,6 +21,7 @@
 mod answers;
 mod checking;
 mod listed;
+mod node_passes;
 mod program;
 mod report;
 mod running;

@@ -7,12 +7,14 @@ ghost use Rattle.thp_cli.specs.Prelude.{ReadsOn};
 ghost use Rattle.thp_run.specs.ScriptInProgress.{HasRead, HasRun, IsScriptInProgress, EndsBeforeRun, RunsInput, RunsOnRest};
 ghost use Rattle.thp_run.specs.ScriptInProgressLaws.{nothing_read, more_read};
 ghost use Rattle.thp_run.specs.InParts.{AreNew, HasBegun};
-ghost use Rattle.thp_worker.specs.Prelude.{Fronts, fronts_in};
+ghost use Rattle.thp_worker.specs.Prelude.{Fronts};
+ghost use Rattle.thp_run.specs.Passes.{fronts_in};
 ghost use Rattle.thp_worker.specs.declared.answer_log.Answers.TheVariants.{Kept as KeptAnswers};
 ghost use Rattle.thp_run.specs.Sections.{SectionAnswersAre};
 ghost use Rattle.thp_script.specs.declared.fault.ReadFault.TheVariants.{OutOfMemory};
 ghost use Rattle.thp_script.specs.declared.script.Command.{Command};
 
+use crate::node_passes::NodePasses;
 use crate::script_run::{RunResult, begin_run, end_run, new_cells, take_apart};
 use std::alloc::Global;
 use std::io::Read;
@@ -21,7 +23,7 @@ use thp_cell::{NodeCell, Pass};
 use thp_cli::{RunFault, Watched, read_parts};
 use thp_node::Recorder;
 use thp_script::{MAX_INPUT, ReadFault, ReadsParts, Report, ScriptReader, Settings};
-use thp_worker::{Gate, NodePasses, SectionLog, SectionOutcome, do_commands};
+use thp_worker::{Gate, SectionLog, SectionOutcome, do_commands};
 
 // A script that has been read in part. Its commands of `setup` so far have been executed.
 #[derive(Drop)]

@@ -4,7 +4,8 @@ ghost use Rattle.std.specs.Prelude.{◌≡◌, ◌↔◌, ◌+◌, ◌<◌, ◌�
 ghost use Rattle.thp_cell.specs.Prelude.{PassState};
 ghost use Rattle.thp_worker.specs.declared.answer_log.Answers.TheVariants.{Kept as KeptAnswers, Counted as CountedAnswers};
 ghost use Rattle.thp_worker.specs.declared.answer_log.Answers.{Answers};
-ghost use Rattle.thp_worker.specs.Prelude.{Agree, AllWork, AnswersAre, AreCommandsFor, Fronts, HoldsAllCallers, IsDoneFor, KeepsNode, fronts_in};
+ghost use Rattle.thp_worker.specs.Prelude.{AllWork, AnswersAre, AreCommandsFor, Fronts, HoldsAllCallers, IsDoneFor, KeepsNode};
+ghost use Rattle.thp_run.specs.Passes.{Agree, fronts_in};
 ghost use Rattle.thp_script.specs.Prelude.{after_setup, max_workers, IsScriptFor};
 ghost use Rattle.thp_script.specs.declared.script.Command.{Command};
 ghost use Rattle.atomic_table.specs.Seated.{TableId};
@@ -14,6 +15,7 @@ ghost use Rattle.thp_run.specs.NewNodes.{new_shape};
 ghost use Rattle.thp_run.specs.Sharing.{pass_of};
 ghost use Rattle.thp_run.specs.Sections.{numbered, GoesFrom, InOrder, IsSetUp, RunsTo};
 
+use crate::node_passes::NodePasses;
 use crate::values::{Script, sections_of_script};
 use std::alloc::{AllocError, Global};
 use std::thread::Threads;
@@ -22,8 +24,8 @@ use thp_history::Shape;
 use thp_node::{FullLog, Node, Recorder};
 use thp_script::{Command, Report, ScriptSections, Sequence, Settings};
 use thp_worker::{
-    Answers, Gate, NodePass, NodePasses, Passes, SectionLog, SectionOutcome, Steps, begin_section,
-    do_commands, end_section, run_range, work_rest,
+    Answers, Gate, NodePass, Passes, SectionLog, SectionOutcome, Steps, begin_section, do_commands,
+    end_section, run_range, work_rest,
 };
 
 /// The result of a run: the nodes, which recorded their events in an `N`, and the answers of each section.
@@ -100,7 +102,7 @@ fn new_cell<N: Recorder>(
 }
 
 /// Begins a run on new nodes, before the first command of `setup`. The passes keep the nodes for it.
-pub fn begin_run<'a, N: Recorder>(
+pub(crate) fn begin_run<'a, N: Recorder>(
     alloc: Global,
     settings: &Settings,
     cells: &'a [NodeCell<N>],
@@ -125,7 +127,7 @@ pub fn begin_run<'a, N: Recorder>(
 }
 
 /// Ends a run: executes the rest of its script, `setup` first.
-pub fn end_run<'a, R: Threads + Sync, N: Recorder + Send, G: Gate + Sync>(
+pub(crate) fn end_run<'a, R: Threads + Sync, N: Recorder + Send, G: Gate + Sync>(
     rt: &R,
     alloc: Global,
     settings: &Settings,
@@ -168,7 +170,7 @@ fn close<'a, R: Recorder>(
 }
 
 /// Dismantles the cells of a run that has ended, and returns the nodes with the answers of the sections.
-pub fn take_apart<N: Recorder>(
+pub(crate) fn take_apart<N: Recorder>(
     alloc: Global,
     settings: &Settings,
     cells: Vec<NodeCell<N>>,

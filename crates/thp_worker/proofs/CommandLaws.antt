@@ -1,9 +1,9 @@
 -- A command, step after step.
-use Rattle.std.proofs.Common.{◌≡◌, ◌++◌, ℕ, [], ◌∷◌, refl, sym, ap, ◌∙◌, subst, append_assoc, true, false, Result, Ok, Err, IsErrAnd}
+use Rattle.std.proofs.Common.{◌≡◌, ◌⊎◌, inl, inr, ◌++◌, ℕ, List, [], ◌∷◌, Some, slice_get, refl, sym, ap, ◌∙◌, subst, append_assoc, true, false, Result, Ok, Err, IfErr, IsErrAnd}
 use Rattle.std.proofs.lemmas.List.{append-nil, map-append}
 use Rattle.std.proofs.lemmas.List.Elements.{All-nil, All-push}
 use Rattle.thp_script.specs.declared.script.Command.{Command}
-use Rattle.thp_worker.specs.Prelude.{CommandProgress, Reply, Step, Reaction, IsFit, answer_of, Fronts, HoldsCaller, Goes, Answered, StepDone, CommandState, On, Ended, Comes, by_cell, IsReady, is_scan, next_step, goes_on, scan_goes_on, Made, IsWorkFor, Proceeds, step_results}
+use Rattle.thp_worker.specs.Prelude.{CommandProgress, Reply, Step, Reaction, IsFit, answer_of, Fronts, HoldsCaller, Goes, Answered, StepDone, CommandState, On, Ended, Comes, by_cell, IsReady, is_scan, next_step, goes_on, scan_goes_on, Made, IsWorkFor, MayWant, OutOf, Proceeds, WantsMemory, step_results}
 use Rattle.thp_cell.specs.declared.fault.CellFault.{CellFault}
 use Rattle.thp_cell.specs.declared.fault.CellFault.TheVariants.{Busy, Refused}
 use Rattle.thp_history.specs.declared.refusal.Refusal.{Refusal}
@@ -11,7 +11,7 @@ use Rattle.thp_history.specs.declared.refusal.Refusal.TheVariants as why
 use Rattle.thp_script.specs.declared.script.Op.{Op}
 use Rattle.thp_script.specs.declared.script.Op.TheVariants as op
 use Rattle.thp_worker.proofs.TurnLaws.{turned, fares}
-use Rattle.thp_worker.proofs.StepLaws.{goes_refl, has_later, made_by, steps_none, steps_one, steps_then, moves_goes, goes_grows}
+use Rattle.thp_worker.proofs.StepLaws.{goes_refl, goes_trans, has_later, made_by, steps_none, steps_one, steps_then, moves_goes, goes_grows}
 
 -- no step yet
 pub proceeds_none : (c : ℕ) (command : Command) (begun : CommandProgress) (f : Fronts) → IsReady (f.batches c command.node) begun → Proceeds c command begun f f (On begun)
@@ -94,6 +94,35 @@ module _ {c n nodes : ℕ} {command : Command} {first begun : CommandProgress} {
   pub scan_fault : (fault : CellFault) → StepDone c command.node step mid new (Err fault) → Comes begun (Err fault) (Proceeds c command first old new)
   scan_fault fault done = fault_comes c command first begun old mid new (has_later old mid c g.same has) for.fits g p fault (subst (λ s. StepDone c command.node s mid new (Err fault)) next done)
 
+-- a step for which there was no memory
+pub fault_wants : (c : ℕ) (command : Command) (begun : CommandProgress) (old mid : Fronts) (step : Step) (new : Fronts) → step ≡ next_step command.op begun → Goes c old mid → (fault : CellFault) → StepDone c command.node step mid new (Err fault) → fault ≡ Refused why.OutOfMemory
+    → WantsMemory c command.node command.op old new
+fault_wants c command begun old mid step new at g fault done is = record {
+  before = mid;
+  begun = begun;
+  goes = g;
+  lacks = subst (λ s. OutOf c command.node s mid new) at (subst (λ f. StepDone c command.node step mid new (Err f)) is done);
+}
+
+pub step_wants : (c : ℕ) (command : Command) (begun : CommandProgress) (old : Fronts) (step : Step) (new : Fronts) → step ≡ next_step command.op begun → (result : Result (Unit {0}) CellFault) (reply : Reply) → StepDone c command.node step old new (answer_of result reply) → result ≡ Err (Refused why.OutOfMemory)
+    → WantsMemory c command.node command.op old new
+step_wants c command begun old step new at result reply done is =
+    fault_wants c command begun old old step new at (goes_refl c old) (Refused why.OutOfMemory) (subst (λ r. StepDone c command.node step old new (answer_of r reply)) is done) refl
+
+-- it lacked memory at a later state too
+pub wants_later : (c n : ℕ) (o : Op) (old mid new : Fronts) → Goes c old mid → WantsMemory c n o mid new → WantsMemory c n o old new
+wants_later c n o old mid new g w = record { before = w.before; begun = w.begun; goes = goes_trans c old mid w.before g w.goes; lacks = w.lacks }
+
+pub may_want : (c : ℕ) (commands : List Command) (command : Command) (old mid new : Fronts) → ((k : ℕ) × (slice_get commands k ≡ Some command)) ⊎ (command.op ≡ op.PutBack) → Goes c old mid → WantsMemory c command.node command.op mid new → MayWant c commands old new
+may_want c commands command old mid new listed g w = record { command = command; listed = listed; wants = wants_later c command.node command.op old mid new g w }
+
+not_listed : (command : Command) (k : ℕ) → slice_get [] k ≡ Some command → ⊥
+not_listed command k is = absurd (cc)
+
+pub may_want_later : (c : ℕ) (commands : List Command) (old mid new : Fronts) → Goes c old mid → MayWant c [] mid new → MayWant c commands old new
+may_want_later c commands old mid new g w =
+    may_want c commands w.command old mid new (elim w.listed [ inl x ↦ absurd (not_listed w.command x.0 x.1) | inr is ↦ inr is ]) g w.wants
+
 -- a fault that was handed on
 pub handed_on : (r : Result (Unit {0}) CellFault) (fault : CellFault) → IsErrAnd r (λ f. f ≡ fault) → r ≡ Err fault
 handed_on (Ok x) fault is = absurd is
@@ -117,3 +146,18 @@ refused_comes begun P why.HasBatch not p = p
 pub cell_comes : (begun : CommandProgress) (P : CommandState → Type 0) (called : Result (Unit {0}) CellFault) (said : Result (Unit {0}) Refusal) (reply : Reply) → called ≡ by_cell said → (called ≡ Err (Refused why.OutOfMemory) → ⊥) → Comes begun (answer_of called reply) P → P (Ended (answer_of said reply))
 cell_comes begun P called (Ok x) reply is room p = subst (λ r. Comes begun (answer_of r reply) P) is p
 cell_comes begun P called (Err refusal) reply is room p = refused_comes begun P refusal (λ e. room (is ∙ ap (λ x. Err (Refused x)) e)) (subst (λ r. Comes begun (answer_of r reply) P) is p)
+
+-- a fault that was handed on for want of memory
+pub lacked : (r : Result (Unit {0}) CellFault) (fault : CellFault) → IsErrAnd r (λ f. f ≡ fault) → r ≡ Err (Refused why.OutOfMemory) → fault ≡ Refused why.OutOfMemory
+lacked (Ok x) fault ends is = absurd ends
+lacked (Err f) fault ends is = let same : f ≡ Refused why.OutOfMemory = cc in sym ends ∙ same
+
+-- what is so in each case is so where a result is an error
+module _ {A E : Type 0} where
+  pub if_err : (r : Result A E) (P : Type 0) → P → IfErr r (λ e. P)
+  if_err (Ok x) P p = tt
+  if_err (Err e) P p = p
+
+  pub if_err_map : (r : Result A E) (P Q : Type 0) → (P → Q) → IfErr r (λ e. P) → IfErr r (λ e. Q)
+  if_err_map (Ok x) P Q f p = tt
+  if_err_map (Err e) P Q f p = f p

@@ -1,4 +1,4 @@
--- Passes of all nodes may go to another thread, where what they record in may: what each type is made of may.
+-- A pass of one node may go to another thread, where what it records in may: what it is made of may.
 use denote.RattleType.{RattleType}
 use denote.Ref.{NamedLft}
 use denote.Param.Send.{IsSend, view_send, sendable}
@@ -9,15 +9,8 @@ use Rattle.std.proofs.option.Option.TheSendSync as option
 use Rattle.thp_node.specs.declared.recorder.Recorder.{Ghosts}
 use Rattle.thp_worker.specs.contracts.node_pass.NodePass as NodePass
 use Rattle.thp_worker.specs.contracts.node_pass.NodePass.TheInside as in_node_pass
-use Rattle.thp_worker.specs.contracts.node_passes.NodePasses as NodePasses
-use Rattle.thp_worker.specs.contracts.node_passes.NodePasses.TheInside as in_passes
 use Rattle.thp_cell.proofs.Crossings.{batch_send, cell_sync, pass_send}
 
 module _ (d e : Dict) (T : RattleType) (R : Ghosts T.Denot) (recorder_send : IsSend T) where
-  -- a pass of one node may go to another thread
-  node_pass_send : (k : NamedLft) → IsSend (NodePass.the_row k T R)
+  pub node_pass_send : (k : NamedLft) → IsSend (NodePass.the_row k T R)
   node_pass_send k = view_send (in_node_pass.the_row k T R) _ _ _ _ (declared_send (in_node_pass.the_type k T R) (search (sendable, as_row_send, cell_sync d e T R recorder_send), (pass_send d e T R recorder_send, (Vec-send _ (option.the_send _ batch_send), tt))))
-
-  -- passes of all nodes may go to another thread
-  pub node_passes_send : (k : NamedLft) → IsSend (NodePasses.the_row k T R)
-  node_passes_send k = view_send (in_passes.the_row k T R) _ _ _ _ (declared_send (in_passes.the_type k T R) (search sendable, (search sendable, (search sendable, (Vec-send _ (node_pass_send k), tt)))))

@@ -1,5 +1,5 @@
 -- Calls of a cell, as steps of the holder of a pass and its open batches.
-use Rattle.std.proofs.Common.{◌≡◌, ◌∙◌, ◌⊎◌, ◌≢◌, ◌++◌, ◌+◌, ◌-◌, ◌<◌, ◌==◌, ap, ℕ, Bool, true, false, cond, List, [], ◌∷◌, length, refl, sym, subst, arith, zero, suc, Option, Some, None, Ok, Err, set, unwrap_or, slice_get, Result, IfOk, IfErr, OnOk, nat_le, append-nil, All, if◌then◌else◌}
+use Rattle.std.proofs.Common.{◌≡◌, ◌∙◌, ◌⊎◌, inl, inr, ◌≢◌, ◌++◌, ◌+◌, ◌-◌, ◌<◌, ◌==◌, ap, ℕ, Bool, true, false, cond, List, [], ◌∷◌, length, refl, sym, subst, arith, zero, suc, Option, Some, None, Ok, Err, set, unwrap_or, slice_get, Result, IfOk, IfErr, OnOk, nat_le, append-nil, All, if◌then◌else◌}
 use Rattle.std.proofs.lemmas.Option.{get_or_from_slice_get, slice_get_within}
 use Rattle.std.proofs.lemmas.Bool.{eqb-true, eqb-false}
 use Rattle.std.proofs.lemmas.Bool.Decides.{nat_tests}
@@ -11,17 +11,17 @@ use Rattle.thp_history.specs.declared.events.What.{What}
 use Rattle.thp_history.specs.declared.refusal.Refusal.{Refusal}
 use Rattle.thp_history.specs.declared.refusal.Refusal.TheVariants.{HasBatch, OutOfMemory}
 use Rattle.thp_history.specs.declared.shape.Shape.{Shape}
-use Rattle.thp_history.specs.Prelude.{History, by, queue, take_events, split_next_events, put_back_events, Call, refusal}
+use Rattle.thp_history.specs.Prelude.{History, IsLegal, by, queue, take_events, split_next_events, put_back_events, Call, refusal}
 use Rattle.thp_history.specs.Refusals as call
 use Rattle.thp_history.specs.declared.page_call.Done.{Done}
 use Rattle.thp_node.specs.declared.answers.Tried.{Tried}
 use Rattle.thp_node.specs.declared.answers.BackReply.{BackReply}
 use Rattle.thp_node.specs.Prelude.{BatchState, IsInFront, rest}
-use Rattle.thp_cell.specs.Prelude.{IsOther, at_front, BatchesStay, OtherBatchesStay, Called, Failed, Follows, DidOne, SaysAlloc, DidLose, DidTake, DidTry, DidPutBack, PassState, HasCaller}
+use Rattle.thp_cell.specs.Prelude.{IsOther, Since, at_front, continuing, locking, BatchesStay, OtherBatchesStay, Called, Failed, Follows, DidOne, SaysAlloc, DidLose, DidTake, DidTry, DidPutBack, PassState, HasCaller}
 use Rattle.thp_cell.specs.declared.fault.CellFault.{CellFault}
 use Rattle.thp_cell.specs.declared.fault.CellFault.TheVariants.{Refused}
 use Rattle.thp_script.specs.declared.script.Op.{Op}
-use Rattle.thp_worker.specs.Prelude.{NodeCall, Step, Take, SplitNext, PutBack, Reply, call_events, node_call_of, Open, Reaction, Does, DoesCall, step_events, open_of, step_refusal, refusal_of_call, Held, IsHolding, IsShut, Acts, HeldAnswered, HeldDone, batch_of, open_in, unit_reply, loss_reply, page_reply}
+use Rattle.thp_worker.specs.Prelude.{NodeCall, Step, Take, SplitNext, PutBack, Reply, call_events, node_call_of, Open, Reaction, Does, DoesCall, step_events, open_of, step_refusal, refusal_of_call, Held, IsHolding, IsShut, Acts, HeldAnswered, HeldDone, LocksOnce, batch_of, open_in, unit_reply, loss_reply, page_reply}
 use Rattle.thp_worker.specs.declared.steps.NodeCall.TheVariants as node
 use Rattle.thp_worker.specs.declared.steps.Step.TheVariants as steps
 use Rattle.thp_worker.specs.declared.reply.Reply.TheVariants as reply
@@ -44,9 +44,21 @@ never_call s h x = grind (arith, never)
 never_memory : (s : Shape) (h : History) (c : ℕ) (step : Step) → NotMemory (step_refusal s h c step)
 never_memory s h c x = grind (arith, never_call, never)
 
+-- ---- lock steps
+
+-- where only the front changed, the lock steps are the same
+pub continues : (p q : PassState) → q ≡ at_front p q.front → q ≡ continuing p q
+continues p q same = same ∙ (λ i. record p { front = q.front; locks = (sym same i).locks; misses = (sym same i).misses })
+
+once_locked : (p q : PassState) → q ≡ at_front (locking p) q.front → LocksOnce p q
+once_locked p q same = record { locks = inr (ap (λ (x : PassState). x.locks) same); misses = ap (λ (x : PassState). x.misses) same }
+
+never_locked : (p q : PassState) → q ≡ at_front p q.front → LocksOnce p q
+never_locked p q same = record { locks = inl (ap (λ (x : PassState). x.locks) same); misses = ap (λ (x : PassState). x.misses) same }
+
 -- ---- the invariant
 
-pub held_stays : (cell : TableId) (p q : PassState) (bs : List (Option BatchState)) → IsHolding cell p bs → q ≡ at_front p q.front → BatchesStay p q → IsHolding cell q bs
+pub held_stays : (cell : TableId) (p q : PassState) (bs : List (Option BatchState)) → IsHolding cell p bs → q ≡ continuing p q → BatchesStay p q → IsHolding cell q bs
 held_stays cell p q bs held same stay = grind (arith, slice_get_within)
 
 -- ---- callers without an open batch
@@ -74,15 +86,18 @@ is_shut p bs none c = from (nat_le p.first c)
 
 -- ---- calls that leave the open batches alone
 
-module _ (p q : PassState) (bs : List (Option BatchState)) (c : ℕ) (same : q ≡ at_front p q.front) where
+module _ (p q : PassState) (bs : List (Option BatchState)) (c : ℕ) (same : q ≡ continuing p q) where
   batch_same : (d : ℕ) → batch_of (record { pass = q; batches = bs }) d ≡ batch_of (record { pass = p; batches = bs }) d
   batch_same d = ap (λ (x : PassState). batch_of (record { pass = x; batches = bs }) d) same
 
   acts_called : (Says : History → List Event → Type 0) (r : Called p q c Says) → Acts c (record { pass = p; batches = bs }) (record { pass = q; batches = bs }) r.others.others r.own (batch_of (record { pass = p; batches = bs }) c)
-  acts_called x r = grind (arith, batch_same)
+  acts_called x r = let once = once_locked p q r.locked in grind (arith, batch_same)
 
-  acts_followed : (f : Follows p q) → Acts c (record { pass = p; batches = bs }) (record { pass = q; batches = bs }) f.others.others [] (batch_of (record { pass = p; batches = bs }) c)
-  acts_followed f = grind (arith, All-nil, append-nil, batch_same)
+  acts_followed : (since : Since p.first p.end p.front q.front) → IsLegal p.shape q.front → LocksOnce p q → Acts c (record { pass = p; batches = bs }) (record { pass = q; batches = bs }) since.others [] (batch_of (record { pass = p; batches = bs }) c)
+  acts_followed since legal once = grind (arith, All-nil, append-nil, batch_same)
+
+  acts_refused : (f : Follows (locking p) q) → Acts c (record { pass = p; batches = bs }) (record { pass = q; batches = bs }) f.others.others [] (batch_of (record { pass = p; batches = bs }) c)
+  acts_refused f = acts_followed f.others f.legal (once_locked p q f.same)
 
   -- a step that was answered
   pub held_called : (step : Step) (answer : Reply) (Says : History → List Event → Type 0) → Called p q c Says
@@ -90,10 +105,10 @@ module _ (p q : PassState) (bs : List (Option BatchState)) (c : ℕ) (same : q �
       → HeldAnswered c step (record { pass = p; batches = bs }) (record { pass = q; batches = bs }) (Ok answer)
   held_called step answer x r does = grind (arith, acts_called)
 
-  refused_done : (step : Step) (why : Refusal) (f : Follows p q) → ((h : History) → step_refusal p.shape h c step ≡ Some why → Does p.shape h c (batch_of (record { pass = p; batches = bs }) c) step [] (Err why) (batch_of (record { pass = p; batches = bs }) c))
+  refused_done : (step : Step) (why : Refusal) (f : Follows (locking p) q) → ((h : History) → step_refusal p.shape h c step ≡ Some why → Does p.shape h c (batch_of (record { pass = p; batches = bs }) c) step [] (Err why) (batch_of (record { pass = p; batches = bs }) c))
       → (step_refusal p.shape (p.front ++ f.others.others) c step ≡ Some why) ⊎ ((step_refusal p.shape (p.front ++ f.others.others) c step ≡ None) × (why ≡ OutOfMemory) × (0 < step_events p.shape (p.front ++ f.others.others) c (batch_of (record { pass = p; batches = bs }) c) step))
       → HeldDone c step (record { pass = p; batches = bs }) (record { pass = q; batches = bs }) (Err (Refused why))
-  refused_done step x f does cause = grind (arith, never_memory, acts_followed)
+  refused_done step x f does cause = grind (arith, never_memory, acts_refused)
 
   -- a step that failed
   pub held_failed : (step : Step) (fault : CellFault) → Failed p q (step_refusal q.shape q.front c step) (step_events q.shape q.front c (batch_of (record { pass = p; batches = bs }) c) step) fault
@@ -110,7 +125,7 @@ unfolding Does
 does_call s h c o k call batch own answer e does = rw (call, e) (does, refl)
 
 -- a page was allocated
-pub alloc_done : (o : Op) → node_call_of o ≡ node.Alloc → (p q : PassState) (bs : List (Option BatchState)) (c : ℕ) (page : ℕ) → q ≡ at_front p q.front → Called p q c (SaysAlloc p.shape c page) → HeldAnswered c (steps.One o) (record { pass = p; batches = bs }) (record { pass = q; batches = bs }) (Ok (reply.Page page))
+pub alloc_done : (o : Op) → node_call_of o ≡ node.Alloc → (p q : PassState) (bs : List (Option BatchState)) (c : ℕ) (page : ℕ) → q ≡ continuing p q → Called p q c (SaysAlloc p.shape c page) → HeldAnswered c (steps.One o) (record { pass = p; batches = bs }) (record { pass = q; batches = bs }) (Ok (reply.Page page))
 alloc_done o is p q bs c page same r = grind (arith, held_called, does_call)
 
 pub count_done : (o : Op) → node_call_of o ≡ node.Count → (p q : PassState) (bs : List (Option BatchState)) (c n : ℕ) → Follows p q → n ≡ length (queue q.shape q.front) → HeldAnswered c (steps.One o) (record { pass = p; batches = bs }) (record { pass = q; batches = bs }) (Ok (reply.Count n))
@@ -118,27 +133,27 @@ count_done o call p q bs c n f is = record {
   others = f.others.others;
   own = [];
   after = batch_of (record { pass = p; batches = bs }) c;
-  acts = acts_followed p q bs c f.same f;
+  acts = acts_followed p q bs c (continues p q f.same) f.others f.legal (never_locked p q f.same);
   does = does_call p.shape (p.front ++ f.others.others) c o node.Count call _ [] (reply.Count n) refl (refl, rw (is, ap (λ (x : PassState). x.shape) f.same, f.others.goes_on) refl);
 }
 
-pub call_failed : (o : Op) (k : NodeCall) → node_call_of o ≡ k → (p q : PassState) (bs : List (Option BatchState)) (c : ℕ) (fault : CellFault) → q ≡ at_front p q.front → Failed p q (refusal_of_call q.shape q.front k) (call_events k) fault
+pub call_failed : (o : Op) (k : NodeCall) → node_call_of o ≡ k → (p q : PassState) (bs : List (Option BatchState)) (c : ℕ) (fault : CellFault) → q ≡ continuing p q → Failed p q (refusal_of_call q.shape q.front k) (call_events k) fault
     → HeldDone c (steps.One o) (record { pass = p; batches = bs }) (record { pass = q; batches = bs }) (Err fault)
 call_failed o k is p q bs c fault same failed = grind (arith, held_failed, does_refused)
 
 -- an allocation, done or not
-pub alloc_reported : (o : Op) → node_call_of o ≡ node.Alloc → (p q : PassState) (bs : List (Option BatchState)) (c : ℕ) (r : Result ℕ CellFault) → q ≡ at_front p q.front → IfOk r (λ page. Called p q c (SaysAlloc p.shape c page)) → IfErr r (Failed p q (refusal_of_call q.shape q.front node.Alloc) 1)
+pub alloc_reported : (o : Op) → node_call_of o ≡ node.Alloc → (p q : PassState) (bs : List (Option BatchState)) (c : ℕ) (r : Result ℕ CellFault) → q ≡ continuing p q → IfOk r (λ page. Called p q c (SaysAlloc p.shape c page)) → IfErr r (Failed p q (refusal_of_call q.shape q.front node.Alloc) 1)
     → HeldDone c (steps.One o) (record { pass = p; batches = bs }) (record { pass = q; batches = bs }) (page_reply r)
 alloc_reported o is p q bs c x same called failed = grind (arith, alloc_done, call_failed)
 
 -- a call that reports nothing
-pub unit_done : (o : Op) (k : NodeCall) → node_call_of o ≡ k → (p q : PassState) (bs : List (Option BatchState)) (c : ℕ) (w : What) (r : Result (Unit {0}) CellFault) (call : Call) → q ≡ at_front p q.front → OnOk r (Called p q c (DidOne p.shape call c w)) → IfErr r (Failed p q (refusal_of_call q.shape q.front k) (call_events k))
+pub unit_done : (o : Op) (k : NodeCall) → node_call_of o ≡ k → (p q : PassState) (bs : List (Option BatchState)) (c : ℕ) (w : What) (r : Result (Unit {0}) CellFault) (call : Call) → q ≡ continuing p q → OnOk r (Called p q c (DidOne p.shape call c w)) → IfErr r (Failed p q (refusal_of_call q.shape q.front k) (call_events k))
     → ((s : Shape) (h : History) → refusal_of_call s h k ≡ refusal s h call) → ((s : Shape) (h : History) (own : List Event) → own ≡ by c w ∷ [] → DoesCall s h c k own (Ok reply.Unit))
     → HeldDone c (steps.One o) (record { pass = p; batches = bs }) (record { pass = q; batches = bs }) (unit_reply r)
 unit_done o k at p q bs c w x call same called failed is does = grind (arith, held_called, does_call, call_failed)
 
 -- a call that may give frames back
-pub loss_done : (o : Op) (k : NodeCall) → node_call_of o ≡ k → (p q : PassState) (bs : List (Option BatchState)) (c page : ℕ) (w : Outcome → List Bool → What) (r : Result Done CellFault) (call : Call) → q ≡ at_front p q.front → IfOk r (λ d. Called p q c (DidLose p.shape call c page w d)) → IfErr r (Failed p q (refusal_of_call q.shape q.front k) (call_events k))
+pub loss_done : (o : Op) (k : NodeCall) → node_call_of o ≡ k → (p q : PassState) (bs : List (Option BatchState)) (c page : ℕ) (w : Outcome → List Bool → What) (r : Result Done CellFault) (call : Call) → q ≡ continuing p q → IfOk r (λ d. Called p q c (DidLose p.shape call c page w d)) → IfErr r (Failed p q (refusal_of_call q.shape q.front k) (call_events k))
     → ((s : Shape) (h : History) → refusal_of_call s h k ≡ refusal s h call) → ((s : Shape) (h : History) (own : List Event) (d : Done) → own ≡ by c (w d.outcome d.released) ∷ [] → DoesCall s h c k own (Ok (reply.Done d)))
     → HeldDone c (steps.One o) (record { pass = p; batches = bs }) (record { pass = q; batches = bs }) (loss_reply r)
 loss_done o k at p q bs c page w x call same called failed is does = grind (arith, held_called, does_call, call_failed)
@@ -178,7 +193,7 @@ abbrev pub IsFor : History → ℕ → Option BatchState → Type 0
 IsFor h c None = Unit {0}
 IsFor h c (Some b) = (b.caller ≡ c) × IsInFront h b
 
-pub held_set : (cell : TableId) (p q : PassState) (bs : List (Option BatchState)) (c place : ℕ) (x : Option BatchState) → IsHolding cell p bs → q ≡ at_front p q.front → OtherBatchesStay c p q → place + p.first ≡ c → place < length bs → IsFor q.front c x → IsHolding cell q (set bs place x)
+pub held_set : (cell : TableId) (p q : PassState) (bs : List (Option BatchState)) (c place : ℕ) (x : Option BatchState) → IsHolding cell p bs → q ≡ continuing p q → OtherBatchesStay c p q → place + p.first ≡ c → place < length bs → IsFor q.front c x → IsHolding cell q (set bs place x)
 held_set cell p q bs c place x held same stay at lt for =
     let first : q.first ≡ p.first = ap (λ (x : PassState). x.first) same in
     let end : q.end ≡ p.end = ap (λ (x : PassState). x.end) same in
@@ -209,7 +224,7 @@ held_set cell p q bs c place x held same stay at lt for =
         let has : HasCaller p b.caller = record { from = omega (arith, was.0); below = omega (arith, was.0, held.callers, slice_get_within bs k (Some b) (sym (slice_get-set_other bs place k x other) ∙ is)) } in
         (rw first was.0, stay b has (λ e. other (omega (arith, was.0, at, e))) was.1)
 
-module _ (p q : PassState) (bs : List (Option BatchState)) (c place : ℕ) (same : q ≡ at_front p q.front) (at : place + p.first ≡ c) (lt : place < length bs) where
+module _ (p q : PassState) (bs : List (Option BatchState)) (c place : ℕ) (same : q ≡ continuing p q) (at : place + p.first ≡ c) (lt : place < length bs) where
   batch_new : (x : Option BatchState) → batch_of (record { pass = q; batches = set bs place x }) c ≡ open_in (Some x)
   batch_new x = grind (arith, nat_le, nat_tests, slice_get-set_same)
 
@@ -223,7 +238,7 @@ module _ (p q : PassState) (bs : List (Option BatchState)) (c place : ℕ) (same
   pub held_changed : (x : Option BatchState) (step : Step) (answer : Reply) (Says : History → List Event → Type 0) → Called p q c Says
       → ((h : History) (own : List Event) → Says h own → Does p.shape h c (open_in (slice_get bs place)) step own (Ok answer) (open_in (Some x)))
       → HeldAnswered c step (record { pass = p; batches = bs }) (record { pass = q; batches = set bs place x }) (Ok answer)
-  held_changed x step answer y r does = grind (arith, batch_new, batch_other, batch_old)
+  held_changed x step answer y r does = let once = once_locked p q r.locked in grind (arith, batch_new, batch_other, batch_old)
 
 -- nothing happened
 pub held_nothing : (p : PassState) (bs : List (Option BatchState)) (c : ℕ) (step : Step) (answer : Reaction) → Does p.shape p.front c (batch_of (record { pass = p; batches = bs }) c) step [] answer (batch_of (record { pass = p; batches = bs }) c)
@@ -234,6 +249,7 @@ held_nothing p bs c step answer does = record {
   after = batch_of (record { pass = p; batches = bs }) c;
   acts = record {
     pass = refl;
+    once = record { locks = inl refl; misses = refl };
     by_others = All-nil (IsOther p.first p.end);
     by_caller = All-nil (λ (e : Event). e.caller ≡ c);
     front = sym (append-nil (p.front ++ []) ∙ append-nil p.front);
@@ -299,7 +315,7 @@ no_back_held p bs new c place at lt is now = none_held p bs new c place PutBack 
 pub beside_held : (p : PassState) (bs : List (Option BatchState)) (c place n : ℕ) (b : BatchState) → place + p.first ≡ c → place < length bs → slice_get bs place ≡ Some (Some b) → HeldAnswered c (Take n) (record { pass = p; batches = bs }) (record { pass = p; batches = bs }) (Err HasBatch)
 beside_held p bs c place n b at lt is = grind (arith, batch_old, held_nothing, beside_take)
 
-module _ (p q : PassState) (bs new : List (Option BatchState)) (c place : ℕ) (same : q ≡ at_front p q.front) (at : place + p.first ≡ c) (lt : place < length bs) where
+module _ (p q : PassState) (bs new : List (Option BatchState)) (c place : ℕ) (same : q ≡ continuing p q) (at : place + p.first ≡ c) (lt : place < length bs) where
   pub take_held : (n taken : ℕ) (b : BatchState) → slice_get bs place ≡ Some None → new ≡ set bs place (Some b) → taken ≡ length b.pages → Called p q c (DidTake p.shape c n b)
       → HeldAnswered c (Take n) (record { pass = p; batches = bs }) (record { pass = q; batches = new }) (Ok (reply.Taken taken))
   take_held n taken b is now count r =
@@ -339,20 +355,20 @@ pub others_stay : (p q : PassState) (c : ℕ) → BatchesStay p q → OtherBatch
 others_stay p q c stay b has other front = stay b has front
 
 -- the invariant after a batch was taken out and one was put there
-pub held_again : (cell : TableId) (p q : PassState) (bs new : List (Option BatchState)) (c place : ℕ) (b : BatchState) → IsHolding cell p bs → q ≡ at_front p q.front → BatchesStay p q → place + p.first ≡ c → place < length bs → new ≡ set (set bs place None) place (Some b) → b.caller ≡ c → IsInFront q.front b → IsHolding cell q new
+pub held_again : (cell : TableId) (p q : PassState) (bs new : List (Option BatchState)) (c place : ℕ) (b : BatchState) → IsHolding cell p bs → q ≡ continuing p q → BatchesStay p q → place + p.first ≡ c → place < length bs → new ≡ set (set bs place None) place (Some b) → b.caller ≡ c → IsInFront q.front b → IsHolding cell q new
 held_again cell p q bs new c place b held same stay at lt now caller front =
     rw (now, set_twice bs place None (Some b)) (held_set cell p q bs c place (Some b) held same (others_stay p q c stay) at lt (caller, front))
 
 -- the invariant after a batch went back
-pub held_gone : (cell : TableId) (p q : PassState) (bs new : List (Option BatchState)) (c place : ℕ) → IsHolding cell p bs → q ≡ at_front p q.front → BatchesStay p q → place + p.first ≡ c → place < length bs → new ≡ set bs place None → IsHolding cell q new
+pub held_gone : (cell : TableId) (p q : PassState) (bs new : List (Option BatchState)) (c place : ℕ) → IsHolding cell p bs → q ≡ continuing p q → BatchesStay p q → place + p.first ≡ c → place < length bs → new ≡ set bs place None → IsHolding cell q new
 held_gone cell p q bs new c place held same stay at lt now = rw now (held_set cell p q bs c place None held same (others_stay p q c stay) at lt tt)
 
 -- the invariant after a take
-pub held_taken : (cell : TableId) (p q : PassState) (bs new : List (Option BatchState)) (c place : ℕ) (b : BatchState) → IsHolding cell p bs → q ≡ at_front p q.front → OtherBatchesStay c p q → place + p.first ≡ c → place < length bs → new ≡ set bs place (Some b) → b.caller ≡ c → IsInFront q.front b → IsHolding cell q new
+pub held_taken : (cell : TableId) (p q : PassState) (bs new : List (Option BatchState)) (c place : ℕ) (b : BatchState) → IsHolding cell p bs → q ≡ continuing p q → OtherBatchesStay c p q → place + p.first ≡ c → place < length bs → new ≡ set bs place (Some b) → b.caller ≡ c → IsInFront q.front b → IsHolding cell q new
 held_taken cell p q bs new c place b held same stay at lt now caller front = rw now (held_set cell p q bs c place (Some b) held same stay at lt (caller, front))
 
 -- and after one that failed: there was no batch of the caller
-pub held_untaken : (cell : TableId) (p q : PassState) (bs : List (Option BatchState)) (c place : ℕ) → IsHolding cell p bs → q ≡ at_front p q.front → OtherBatchesStay c p q → place + p.first ≡ c → place < length bs → slice_get bs place ≡ Some None → IsHolding cell q bs
+pub held_untaken : (cell : TableId) (p q : PassState) (bs : List (Option BatchState)) (c place : ℕ) → IsHolding cell p bs → q ≡ continuing p q → OtherBatchesStay c p q → place + p.first ≡ c → place < length bs → slice_get bs place ≡ Some None → IsHolding cell q bs
 held_untaken cell p q bs c place held same stay at lt is = subst (IsHolding cell q) (set_same bs place None is) (held_set cell p q bs c place None held same stay at lt tt)
 
 pub taken_by : (p q : PassState) (c n : ℕ) (b : BatchState) → Called p q c (DidTake p.shape c n b) → b.caller ≡ c

@@ -1,5 +1,5 @@
 -- The state of the holder of a pass of one node, and the effect of a step on it.
-use Rattle.std.specs.Prelude.{◌≡◌, ◌≢◌, ◌<◌, ℕ, ◌+◌, ◌-◌, nat_le, true, List, [], ◌++◌, All, Option, Some, None, Result, Ok, Err, length, slice_get, take, drop, if◌then◌else◌}
+use Rattle.std.specs.Prelude.{◌≡◌, ◌≢◌, ◌⊎◌, ◌<◌, ℕ, ◌+◌, ◌-◌, nat_le, true, false, List, [], ◌++◌, All, Option, Some, None, Result, Ok, Err, length, slice_get, take, drop, if◌then◌else◌}
 use Rattle.atomic_table.specs.Seated.{TableId}
 use Rattle.thp_history.specs.declared.events.Event.{Event}
 use Rattle.thp_history.specs.declared.refusal.Refusal.TheVariants.{OutOfMemory}
@@ -8,7 +8,7 @@ use Rattle.thp_history.specs.declared.page_call.Done.{Done}
 use Rattle.thp_node.specs.Prelude.{BatchState, IsInFront}
 use Rattle.thp_cell.specs.declared.fault.CellFault.{CellFault}
 use Rattle.thp_cell.specs.declared.fault.CellFault.TheVariants.{Busy, Refused}
-use Rattle.thp_cell.specs.Prelude.{at_front, below, from, keeping, IsOther, PassState, HasAll, HasCaller}
+use Rattle.thp_cell.specs.Prelude.{below, continuing, from, keeping, locking, missing, IsOther, PassState, HasAll, HasCaller}
 use Rattle.thp_worker.specs.declared.steps.Step.{Step}
 use Rattle.thp_worker.specs.declared.reply.Reply.{Reply}
 use Rattle.thp_worker.specs.declared.reply.Reply.TheVariants as reply
@@ -19,9 +19,9 @@ pub record Held : Type 0 where
   pub pass : PassState
   pub batches : List (Option BatchState)
 
--- the same with the node kept by the pass
+-- the same with the node kept by the pass, which takes it by a lock step unless it keeps it already
 abbrev pub keeping_node : Held → Held
-keeping_node h = record h { pass = keeping h.pass }
+keeping_node h = record h { pass = keeping (locking h.pass) }
 
 -- the pass keeps the node between its calls
 abbrev pub KeepsNode : Held → Type 0
@@ -46,9 +46,16 @@ batch_of h c = if nat_le h.pass.first c then open_in (slice_get h.batches (c - h
 abbrev pub IsShut : Held → Type 0
 IsShut h = (c : ℕ) → batch_of h c ≡ None
 
--- the node's history is extended by events of others and then by these of caller c, whose open batch is `after`
+-- the pass made one lock step at most, and took the node by it
+pub record LocksOnce (p q : PassState) : Type 0 where
+  pub locks : (q.locks ≡ p.locks) ⊎ (q.locks ≡ (locking p).locks)
+  pub misses : q.misses ≡ p.misses
+
+-- By one lock step at most, the node's history is extended by events of others and then by these of caller c, whose open batch is
+-- `after`
 pub record Acts (c : ℕ) (old new : Held) (others own : List Event) (after : Option Open) : Type 0 where
-  pub pass : new.pass ≡ at_front old.pass new.pass.front
+  pub pass : new.pass ≡ continuing old.pass new.pass
+  pub once : LocksOnce old.pass new.pass
   pub by_others : All (IsOther old.pass.first old.pass.end) others
   pub by_caller : All (λ (e : Event). e.caller ≡ c) own
   pub front : new.pass.front ≡ old.pass.front ++ others ++ own
@@ -71,10 +78,16 @@ pub record HeldOutOf (c : ℕ) (step : Step) (old new : Held) : Type 0 where
   pub allowed : step_refusal old.pass.shape (old.pass.front ++ others) c step ≡ None
   pub needs : 0 < step_events old.pass.shape (old.pass.front ++ others) c (batch_of old c) step
 
+-- one lock step found that another pass has the node: nothing else changed, and the pass neither keeps the node nor has all callers
+pub record IsHeldBusy (old new : Held) : Type 0 where
+  pub same : new ≡ record old { pass = missing old.pass }
+  pub free : old.pass.keeps ≡ false
+  pub shared : HasAll old.pass → ⊥
+
 -- a step of caller c
 abbrev pub HeldDone : ℕ → Step → Held → Held → Result Reply CellFault → Type 0
 HeldDone c step old new (Ok reply) = HeldAnswered c step old new (Ok reply)
-HeldDone c step old new (Err Busy) = (new ≡ old) × (HasAll old.pass → ⊥)
+HeldDone c step old new (Err Busy) = IsHeldBusy old new
 HeldDone c step old new (Err (Refused OutOfMemory)) = HeldOutOf c step old new
 HeldDone c step old new (Err (Refused why)) = HeldAnswered c step old new (Err why)
 

@@ -5,6 +5,7 @@ use Rattle.thp_history.specs.declared.events.Event.{Event}
 use Rattle.thp_history.specs.declared.shape.Shape.{Shape}
 use Rattle.thp_history.specs.Prelude.{History, events_of}
 use Rattle.thp_script.specs.declared.script.Command.{Command}
+use Rattle.thp_script.specs.declared.script.Op.{Op}
 use Rattle.thp_script.specs.declared.script.Op.TheVariants as op
 use Rattle.thp_worker.specs.declared.answer_log.Answers.{Answers}
 use Rattle.thp_worker.specs.declared.reply.Answer.{Answer}
@@ -12,9 +13,9 @@ use Rattle.thp_worker.specs.declared.reply.Rest.{Rest}
 use Rattle.thp_worker.specs.declared.reply.SectionOutcome.{SectionOutcome}
 use Rattle.thp_worker.specs.declared.command.CommandProgress.{CommandProgress}
 use Rattle.thp_worker.specs.Does.{Open, Reaction, Does, IsFit}
-use Rattle.thp_worker.specs.Fronts.{Fronts, Grows}
+use Rattle.thp_worker.specs.Fronts.{Fronts, Goes, Grows, OutOf}
 use Rattle.thp_worker.specs.OpenBatches.{is_open, OpenOn}
-use Rattle.thp_worker.specs.Turns.{CommandState, On, Ended, StepAnswer, Turned, TurnsOut, IsProgressAfter, IsReady, StaysReady, no_progress}
+use Rattle.thp_worker.specs.Turns.{CommandState, On, Ended, StepAnswer, Turned, TurnsOut, IsProgressAfter, IsReady, StaysReady, next_step, no_progress}
 
 -- A step that a caller made: its node, the number of the node's events before it, the caller's open batch there before it, its
 -- own events, which follow directly, the step and its result, and the open batch after it.
@@ -74,6 +75,19 @@ pub record Proceeds (c : ℕ) (command : Command) (begun : CommandProgress) (old
   pub on_node : All (λ (m : Made). m.node ≡ command.node) made
   pub turned : (reported : List StepAnswer) → IsProgressAfter command.op reported begun → Turned command.op (reported ++ step_results made) p
   pub ready : StaysReady (new.batches c command.node) p
+
+-- memory was lacking for a step of this command on node n, which would have recorded an event
+pub record WantsMemory (c n : ℕ) (o : Op) (old new : Fronts) : Type 0 where
+  pub before : Fronts
+  pub begun : CommandProgress
+  pub goes : Goes c old before
+  pub lacks : OutOf c n (next_step o begun) before new
+
+-- memory was lacking for a step of one of these commands, or of a put back
+pub record MayWant (c : ℕ) (commands : List Command) (old new : Fronts) : Type 0 where
+  pub command : Command
+  pub listed : ((k : ℕ) × (slice_get commands k ≡ Some command)) ⊎ (command.op ≡ op.PutBack)
+  pub wants : WantsMemory c command.node command.op old new
 
 -- a command that was executed: its steps, and its answer
 pub record Turn : Type 0 where

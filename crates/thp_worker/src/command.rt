@@ -1,12 +1,13 @@
 //! The steps of one command, and its progress.
-ghost use Rattle.std.specs.Prelude.{◌≡◌, ◌+◌, ◌≤◌, Ok, MatchOption, true, false};
+ghost use Rattle.std.specs.Prelude.{◌≡◌, ◌+◌, ◌≤◌, Err, Ok, MatchOption, true, false};
 ghost use Rattle.thp_history.specs.Prelude.{max_batch};
 ghost use Rattle.thp_script.specs.declared.script.Op.TheVariants.{Scan};
-ghost use Rattle.thp_worker.specs.Prelude.{Comes, Ended, Fronts, Goes, HoldsCaller, IsReady, IsWorkFor, MayPostpone, On, Proceeds, WholeComes, answer_of, is_scan, next_step, no_progress, scan_goes_on, tries_so_far};
+ghost use Rattle.thp_worker.specs.Prelude.{Comes, Ended, Fronts, Goes, HoldsCaller, IsReady, IsWorkFor, MayPostpone, On, Proceeds, WantsMemory, WholeComes, answer_of, is_scan, next_step, no_progress, scan_goes_on, tries_so_far};
 
 use crate::reply::Reply;
 use crate::steps::{Step, Steps, try_step};
 use thp_cell::CellFault;
+use thp_history::Refusal;
 use thp_node::{BackReply, ScanReply, Tried};
 use thp_script::{Command, Op};
 
@@ -115,6 +116,7 @@ pub(crate) fn do_command<S: Steps>(
     ensures goes { Goes caller (S.fronts steps.old) (S.fronts steps.new) }
     ensures proceeds { Comes begun.new (answer_of result reply.new) (Proceeds caller command.now begun.old (S.fronts steps.old) (S.fronts steps.new)) }
     ensures shared { Comes begun.new (answer_of result reply.new) (MayPostpone (S.fronts steps.old)) }
+    ensures wants { result ≡ Err (CellFault.Refused Refusal.OutOfMemory) → WantsMemory caller command.now.node command.now.op (S.fronts steps.old) (S.fronts steps.new) }
 {
     if is_scan(command.op) {
         do_scan(command, caller, begun, steps, reply)
@@ -138,6 +140,7 @@ pub(crate) fn do_whole_command<S: Steps>(
     ensures goes { Goes caller (S.fronts steps.old) (S.fronts steps.new) }
     ensures proceeds { WholeComes (answer_of result reply.new) (Proceeds caller command.now no_progress (S.fronts steps.old) (S.fronts steps.new)) }
     ensures shared { WholeComes (answer_of result reply.new) (MayPostpone (S.fronts steps.old)) }
+    ensures wants { result ≡ Err (CellFault.Refused Refusal.OutOfMemory) → WantsMemory caller command.now.node command.now.op (S.fronts steps.old) (S.fronts steps.new) }
 {
     if is_scan(command.op) {
         let mut begun = no_progress();
@@ -165,6 +168,7 @@ fn do_scan<S: Steps>(
     ensures goes { Goes caller (S.fronts steps.old) (S.fronts steps.new) }
     ensures proceeds { Comes begun.new (answer_of result reply.new) (Proceeds caller command.now begun.old (S.fronts steps.old) (S.fronts steps.new)) }
     ensures shared { Comes begun.new (answer_of result reply.new) (MayPostpone (S.fronts steps.old)) }
+    ensures wants { result ≡ Err (CellFault.Refused Refusal.OutOfMemory) → WantsMemory caller command.now.node command.now.op (S.fronts steps.old) (S.fronts steps.new) }
 {
     let Op::Scan { count } = command.op else {
         unreachable!();

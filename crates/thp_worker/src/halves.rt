@@ -27,8 +27,7 @@ pub trait Passes: Steps + Sized {
         ensures { IfOk result (λ r. AreFrontsJoined (Self.fronts self) (Self.fronts other) (Self.fronts r)) };
 
     /// Keeps the nodes for the following steps, until the callers are divided, if that saves each step taking and releasing its
-    /// node. The holder's knowledge of the nodes does not change; [`NodePasses`](crate::NodePasses) also guarantees that each
-    /// node is kept.
+    /// node. The holder's knowledge of the nodes does not change.
     fn keep_nodes(&mut self)
         requires { HoldsAllCallers (Self.fronts self.old) }
         ensures { Self.fronts self.new ≡ Self.fronts self.old }

@@ -67,7 +67,7 @@ impl<'a, R: Recorder> NodePass<'a, R> {
 
     /// Keeps the node for the following steps, which saves taking and releasing it for each, until the callers are divided or the
     /// pass is returned. The pass must have all callers.
-    pub(crate) fn keep_node(&mut self)
+    pub fn keep_node(&mut self)
         requires { HasAll self.old.pass }
         ensures { self.new ≡ keeping_node self.old }
     {
@@ -76,12 +76,7 @@ impl<'a, R: Recorder> NodePass<'a, R> {
     }
 
     /// Makes one step of a caller. On success the result is in `reply`; on error its content is unspecified.
-    pub(crate) fn step(
-        &mut self,
-        caller: u32,
-        step: Step,
-        reply: &mut Reply,
-    ) -> Result<(), CellFault>
+    pub fn step(&mut self, caller: u32, step: Step, reply: &mut Reply) -> Result<(), CellFault>
         requires caller { HasCaller self.old.pass caller }
         requires step { IsStep step }
         ensures { HeldDone caller step self.old self.new (answer_of result reply.new) }
@@ -96,7 +91,7 @@ impl<'a, R: Recorder> NodePass<'a, R> {
     }
 
     /// Divides the callers into those below `at` and those from `at` on, each with its open batch.
-    pub(crate) fn split(self, at: u32) -> Result<(NodePass<'a, R>, NodePass<'a, R>), AllocError>
+    pub fn split(self, at: u32) -> Result<(NodePass<'a, R>, NodePass<'a, R>), AllocError>
         requires after { self.pass.first < at }
         requires before { at < self.pass.end }
         ensures left { IfOk result (λ r. r.0 ≡ lower_part self.entry at) }
@@ -121,7 +116,7 @@ impl<'a, R: Recorder> NodePass<'a, R> {
     }
 
     /// Joins two passes of one cell whose callers are adjacent, with their open batches.
-    pub(crate) fn join(self, other: NodePass<'a, R>) -> Result<NodePass<'a, R>, AllocError>
+    pub fn join(self, other: NodePass<'a, R>) -> Result<NodePass<'a, R>, AllocError>
         requires cell { other.pass.cell ≡ self.pass.cell }
         requires adjacent { self.pass.end ≡ other.pass.first }
         ensures passes { IfOk result (λ r. IsJoined self.entry.pass other.entry.pass r.pass) }

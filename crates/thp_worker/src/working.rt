@@ -1,7 +1,7 @@
 //! The commands of a section, one after another, all at once or as they arrive in parts, and the put backs at its end.
-ghost use Rattle.std.specs.Prelude.{◌≡◌, ◌^◌, ◌≤◌, ◌<◌, ◌++◌, [], All, IfOk, List, length};
+ghost use Rattle.std.specs.Prelude.{◌≡◌, ◌^◌, ◌≤◌, ◌<◌, ◌++◌, [], All, IfErr, IfOk, List, length};
 ghost use Rattle.thp_script.specs.declared.script.Command.{Command};
-ghost use Rattle.thp_worker.specs.Prelude.{AnswersAre, Begins, Comes, DidFirst, Ends, Fronts, Goes, HasNoBatch, HoldsAllCallers, HoldsCaller, IsDoneFor, IsWorkFor, MayPostpone, PutsBack, Works, answer_of, marked, no_progress};
+ghost use Rattle.thp_worker.specs.Prelude.{AnswersAre, Begins, Comes, DidFirst, Ends, Fronts, Goes, HasNoBatch, HoldsAllCallers, HoldsCaller, IsDoneFor, IsWorkFor, MayPostpone, MayWant, PutsBack, Works, answer_of, marked, no_progress};
 
 use crate::answer_log::{AnswerLog, Answers};
 use crate::command::{CommandProgress, do_command, do_whole_command, no_progress};
@@ -54,6 +54,7 @@ pub fn work_rest<S: Steps>(
     ensures works { (old : Fronts) → Works worker old (S.fronts steps.old) commands.now worked → IfOk result (Works worker old (S.fronts steps.new) commands.now) }
     ensures answers { IfOk result (AnswersAre worked.answers.are) }
     ensures done { HoldsAllCallers (S.fronts steps.old) → IfOk result IsDoneFor }
+    ensures wants { IfErr result (λ _. MayWant worker commands.now (S.fronts steps.old) (S.fronts steps.new)) }
 {
     let Some(rest) = worked.rest else {
         return Ok(worked);
@@ -88,6 +89,7 @@ fn go_on<S: Steps, G: Gate>(
     ensures works { (old : Fronts) → Begins worker old (S.fronts steps.old) commands.now answers.items opened.items begun → IfOk result (Works worker old (S.fronts steps.new) commands.now) }
     ensures answers { IfOk result (AnswersAre answers.are) }
     ensures done { HoldsAllCallers (S.fronts steps.old) → IfOk result IsDoneFor }
+    ensures wants { IfErr result (λ _. MayWant worker commands.now (S.fronts steps.old) (S.fronts steps.new)) }
 {
     let mut reply = Reply::Unit;
     for index in answers.len()..commands.len() {
@@ -134,6 +136,7 @@ pub(crate) fn close<S: Steps>(
     ensures works { (old : Fronts) (commands : List Command) → length commands ≡ count → Ends worker old (S.fronts steps.old) commands answers.items opened.items closed → IfOk result (Works worker old (S.fronts steps.new) commands) }
     ensures answers { IfOk result (AnswersAre answers.are) }
     ensures done { HoldsAllCallers (S.fronts steps.old) → IfOk result IsDoneFor }
+    ensures wants { IfErr result (λ _. MayWant worker [] (S.fronts steps.old) (S.fronts steps.new)) }
 {
     let mut reply = Reply::Unit;
     let nodes = steps.nodes();
@@ -250,6 +253,7 @@ pub fn end_section<S: Steps>(
     ensures works { (old : Fronts) (commands : List Command) → DidFirst worker old (S.fronts steps.old) commands section → IfOk result (Works worker old (S.fronts steps.new) commands) }
     ensures answers { IfOk result (AnswersAre section.answers.are) }
     ensures done { HoldsAllCallers (S.fronts steps.old) → IfOk result IsDoneFor }
+    ensures wants { IfErr result (λ _. MayWant worker [] (S.fronts steps.old) (S.fronts steps.new)) }
 {
     let count = section.answers.len() as u32;
     close(count, worker, section.answers, section.opened, 0, steps)

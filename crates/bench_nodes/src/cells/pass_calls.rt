@@ -1,6 +1,6 @@
 //! Times of the calls of a shared node by one thread: the rounds that bench/calls makes from C.
 ghost use Rattle.std.specs.Prelude.{◌≡◌};
-ghost use Rattle.thp_cell.specs.Prelude.{at_front, HasCaller};
+ghost use Rattle.thp_cell.specs.Prelude.{continuing, HasCaller};
 ghost use Rattle.thp_node.specs.Prelude.{IsInFront};
 
 use crate::nodes::new_cell;
@@ -92,7 +92,7 @@ fn time_rounds_on<R: CpuClock>(
 fn queue_pinned(cell: &NodeCell, pass: &mut Pass)
     requires cell { pass.old.cell ≡ cell.now }
     requires caller { HasCaller pass.old 0 }
-    ensures same { pass.new ≡ at_front pass.old pass.new.front }
+    ensures same { pass.new ≡ continuing pass.old pass.new }
 {
     for page in 0..u64::from(BATCH) {
         let _new = cell.alloc_page(pass, 0);
@@ -106,7 +106,7 @@ fn queue_pinned(cell: &NodeCell, pass: &mut Pass)
 fn once(cell: &NodeCell, pass: &mut Pass, round: Round) -> u64
     requires cell { pass.old.cell ≡ cell.now }
     requires caller { HasCaller pass.old 0 }
-    ensures same { pass.new ≡ at_front pass.old pass.new.front }
+    ensures same { pass.new ≡ continuing pass.old pass.new }
 {
     match round {
         Round::Count => count(cell, pass),
@@ -121,7 +121,7 @@ fn once(cell: &NodeCell, pass: &mut Pass, round: Round) -> u64
 fn count(cell: &NodeCell, pass: &mut Pass) -> u64
     requires cell { pass.old.cell ≡ cell.now }
     requires caller { HasCaller pass.old 0 }
-    ensures same { pass.new ≡ at_front pass.old pass.new.front }
+    ensures same { pass.new ≡ continuing pass.old pass.new }
 {
     u64::from(cell.count(pass))
 }
@@ -130,7 +130,7 @@ fn count(cell: &NodeCell, pass: &mut Pass) -> u64
 fn refused(cell: &NodeCell, pass: &mut Pass) -> u64
     requires cell { pass.old.cell ≡ cell.now }
     requires caller { HasCaller pass.old 0 }
-    ensures same { pass.new ≡ at_front pass.old pass.new.front }
+    ensures same { pass.new ≡ continuing pass.old pass.new }
 {
     u64::from(cell.pin(pass, 0, PageId(7)).is_err())
 }
@@ -139,7 +139,7 @@ fn refused(cell: &NodeCell, pass: &mut Pass) -> u64
 fn pin_unpin(cell: &NodeCell, pass: &mut Pass) -> u64
     requires cell { pass.old.cell ≡ cell.now }
     requires caller { HasCaller pass.old 0 }
-    ensures same { pass.new ≡ at_front pass.old pass.new.front }
+    ensures same { pass.new ≡ continuing pass.old pass.new }
 {
     let pinned = u64::from(cell.pin(pass, 0, PageId(0)).is_ok());
     pinned.wrapping_add(frames(cell.unpin(pass, 0, PageId(0))))
@@ -149,7 +149,7 @@ fn pin_unpin(cell: &NodeCell, pass: &mut Pass) -> u64
 fn map_unmap(cell: &NodeCell, pass: &mut Pass) -> u64
     requires cell { pass.old.cell ≡ cell.now }
     requires caller { HasCaller pass.old 0 }
-    ensures same { pass.new ≡ at_front pass.old pass.new.front }
+    ensures same { pass.new ≡ continuing pass.old pass.new }
 {
     let mapped = u64::from(cell.map_sub(pass, 0, PageId(0), 17, 1).is_ok());
     mapped.wrapping_add(frames(cell.unmap_sub(pass, 0, PageId(0), 17, 1)))
@@ -159,7 +159,7 @@ fn map_unmap(cell: &NodeCell, pass: &mut Pass) -> u64
 fn try_batch(cell: &NodeCell, pass: &mut Pass) -> u64
     requires cell { pass.old.cell ≡ cell.now }
     requires caller { HasCaller pass.old 0 }
-    ensures same { pass.new ≡ at_front pass.old pass.new.front }
+    ensures same { pass.new ≡ continuing pass.old pass.new }
 {
     let Ok(mut batch) = cell.take(pass, 0, BATCH) else {
         return 0;
@@ -176,7 +176,7 @@ fn try_all(cell: &NodeCell, pass: &mut Pass, batch: &mut Batch) -> u64
     requires cell { pass.old.cell ≡ cell.now }
     requires caller { HasCaller pass.old batch.old.caller }
     requires front { IsInFront pass.old.front batch.old }
-    ensures same { pass.new ≡ at_front pass.old pass.new.front }
+    ensures same { pass.new ≡ continuing pass.old pass.new }
     ensures caller { batch.new.caller ≡ batch.old.caller }
     ensures front { IsInFront pass.new.front batch.new }
 {

@@ -1,6 +1,6 @@
 //! Rounds of one thread: pins and unpins of its own page.
 ghost use Rattle.std.specs.Prelude.{◌≡◌};
-ghost use Rattle.thp_cell.specs.Prelude.{HasCaller, at_front};
+ghost use Rattle.thp_cell.specs.Prelude.{HasCaller, continuing};
 
 use crate::nodes::{new_cell, new_node};
 use std::alloc::Global;
@@ -61,7 +61,7 @@ fn rounds_on(node: &mut Node, rounds: u32) -> Option<Tally> {
 pub(crate) fn cell_rounds(cell: &NodeCell, pass: Pass, caller: u32, rounds: u32) -> (Pass, Tally)
     requires cell { pass.cell ≡ cell.now }
     requires caller { HasCaller pass caller }
-    ensures same { result.0 ≡ at_front pass result.0.front }
+    ensures same { result.0 ≡ continuing pass result.0 }
 {
     let mut pass = pass;
     let mut tally = Tally::none();

@@ -1,7 +1,7 @@
 //! Two and four threads, on one cell and on a cell each.
 ghost use Rattle.std.specs.Prelude.{◌≡◌, ◌+◌, ◌<◌};
 ghost use Rattle.std.specs.Thread.{IsSync};
-ghost use Rattle.thp_cell.specs.Prelude.{HasCaller, HasAll, at_front};
+ghost use Rattle.thp_cell.specs.Prelude.{HasCaller, HasAll, continuing};
 
 use crate::cells::rounds::{Tally, cell_rounds, own_rounds};
 use std::alloc::Global;
@@ -50,11 +50,11 @@ fn four_on_one<R: Threads + Sync>(rt: &R, cell: &NodeCell, pass: Pass, rounds: u
         rt,
         move || -> ((Pass, Tally), (Pass, Tally))
             requires { IsSync R.row × (a.cell ≡ cell.now) × (b.cell ≡ cell.now) × HasCaller a 0 × HasCaller b 1 }
-            ensures { (result.0.0 ≡ at_front a result.0.0.front) × (result.1.0 ≡ at_front b result.1.0.front) }
+            ensures { (result.0.0 ≡ continuing a result.0.0) × (result.1.0 ≡ continuing b result.1.0) }
         { pair(rt, cell, a, b, 0, rounds) },
         move || -> ((Pass, Tally), (Pass, Tally))
             requires { IsSync R.row × (c.cell ≡ cell.now) × (d.cell ≡ cell.now) × HasCaller c 2 × HasCaller d 3 }
-            ensures { (result.0.0 ≡ at_front c result.0.0.front) × (result.1.0 ≡ at_front d result.1.0.front) }
+            ensures { (result.0.0 ≡ continuing c result.0.0) × (result.1.0 ≡ continuing d result.1.0) }
         { pair(rt, cell, c, d, 2, rounds) },
     );
     let low = cell.join(a, b);
@@ -76,8 +76,8 @@ fn pair<R: Threads + Sync>(
     requires right_cell { right.cell ≡ cell.now }
     requires left { HasCaller left caller }
     requires right { HasCaller right (caller + 1) }
-    ensures left { result.0.0 ≡ at_front left result.0.0.front }
-    ensures right { result.1.0 ≡ at_front right result.1.0.front }
+    ensures left { result.0.0 ≡ continuing left result.0.0 }
+    ensures right { result.1.0 ≡ continuing right result.1.0 }
 {
     let next = caller + 1;
     thread::join(

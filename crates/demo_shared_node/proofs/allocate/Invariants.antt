@@ -1,6 +1,6 @@
 use Rattle.std.proofs.Common.{◌≡◌}
-use Rattle.thp_cell.specs.Prelude.{at_front}
+use Rattle.thp_cell.specs.Prelude.{continuing}
 use Rattle.demo_shared_node.proofs.allocate.Given as goal
 
 abbrev pub invariant-loop : goal.invariant-loop
-invariant-loop l = l.pass ≡ at_front l.initial.pass l.pass.front
+invariant-loop l = l.pass ≡ continuing l.initial.pass l.pass

@@ -1,6 +1,6 @@
 //! Two concurrent threads on one cell.
 ghost use Rattle.std.specs.Prelude.{◌≡◌};
-ghost use Rattle.thp_cell.specs.Prelude.{HasAll, HasCaller, at_front};
+ghost use Rattle.thp_cell.specs.Prelude.{HasAll, HasCaller, continuing};
 ghost use Rattle.tests_cells.specs.Passes.{Stays};
 
 use crate::steps::{cell_of, is_allocation};
@@ -16,7 +16,7 @@ use thp_node::Node;
 fn allocate_20(cell: &NodeCell, pass: Pass, caller: u32) -> (Pass, u32)
     requires cell { pass.cell ≡ cell.now }
     requires caller { HasCaller pass caller }
-    ensures same { result.0 ≡ at_front pass result.0.front }
+    ensures same { result.0 ≡ continuing pass result.0 }
 {
     let mut pass = pass;
     let mut pages = 0;
@@ -61,8 +61,8 @@ fn allocate_in_pairs<R: Threads + Sync>(
     requires b_cell { b.cell ≡ cell.now }
     requires a_caller { HasCaller a 0 }
     requires b_caller { HasCaller b 1 }
-    ensures a { result.0.0 ≡ at_front a result.0.0.front }
-    ensures b { result.1.0 ≡ at_front b result.1.0.front }
+    ensures a { result.0.0 ≡ continuing a result.0.0 }
+    ensures b { result.1.0 ≡ continuing b result.1.0 }
 {
     thread::join(
         rt,

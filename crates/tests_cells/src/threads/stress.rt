@@ -3,7 +3,7 @@
 ghost use Rattle.std.specs.Prelude.{◌≡◌, ◌<◌, ◌≤◌, ◌+◌, false, IfSome};
 ghost use Rattle.std.specs.Thread.{IsSync};
 ghost use Rattle.thp_node.specs.Prelude.{IsInFront};
-ghost use Rattle.thp_cell.specs.Prelude.{HasCaller, HasAll, IsJoined, at_front, BatchesStay};
+ghost use Rattle.thp_cell.specs.Prelude.{HasCaller, HasAll, IsJoined, continuing, BatchesStay};
 
 use crate::equal::expect_equal;
 use crate::steps::cell_of;
@@ -97,7 +97,7 @@ fn change(
 ) -> PageId
     requires cell { pass.old.cell ≡ cell.now }
     requires caller { HasCaller pass.old caller }
-    ensures same { pass.new ≡ at_front pass.old pass.new.front }
+    ensures same { pass.new ≡ continuing pass.old pass.new }
     ensures batches { BatchesStay pass.old pass.new }
 {
     match turn % 6 {
@@ -149,7 +149,7 @@ fn shrink(
     requires caller { HasCaller pass.old caller }
     requires own { IfSome batch (λ b. b.caller ≡ caller) }
     requires front { IfSome batch (IsInFront pass.old.front) }
-    ensures same { pass.new ≡ at_front pass.old pass.new.front }
+    ensures same { pass.new ≡ continuing pass.old pass.new }
     ensures own { IfSome result (λ b. b.caller ≡ caller) }
     ensures front { IfSome result (IsInFront pass.new.front) }
 {
@@ -174,7 +174,7 @@ fn note_taken(log: &mut Vec<Answer>, pages: &[PageId]) {
 fn take(cell: &NodeCell, pass: &mut Pass, caller: u32, log: &mut Vec<Answer>) -> Option<Batch>
     requires cell { pass.old.cell ≡ cell.now }
     requires caller { HasCaller pass.old caller }
-    ensures same { pass.new ≡ at_front pass.old pass.new.front }
+    ensures same { pass.new ≡ continuing pass.old pass.new }
     ensures own { IfSome result (λ b. b.caller ≡ caller) }
     ensures front { IfSome result (IsInFront pass.new.front) }
 {
@@ -202,7 +202,7 @@ fn try_next(cell: &NodeCell, pass: &mut Pass, batch: Batch, log: &mut Vec<Answer
     requires cell { pass.old.cell ≡ cell.now }
     requires caller { HasCaller pass.old batch.caller }
     requires front { IsInFront pass.old.front batch }
-    ensures same { pass.new ≡ at_front pass.old pass.new.front }
+    ensures same { pass.new ≡ continuing pass.old pass.new }
     ensures own { result.caller ≡ batch.caller }
     ensures front { IsInFront pass.new.front result }
 {
@@ -223,7 +223,7 @@ fn put_back(cell: &NodeCell, pass: &mut Pass, batch: Batch, log: &mut Vec<Answer
     requires cell { pass.old.cell ≡ cell.now }
     requires caller { HasCaller pass.old batch.caller }
     requires front { IsInFront pass.old.front batch }
-    ensures same { pass.new ≡ at_front pass.old pass.new.front }
+    ensures same { pass.new ≡ continuing pass.old pass.new }
     ensures own { IfSome result (λ b. b.caller ≡ batch.caller) }
     ensures front { IfSome result (IsInFront pass.new.front) }
 {
@@ -241,7 +241,7 @@ fn put_back(cell: &NodeCell, pass: &mut Pass, batch: Batch, log: &mut Vec<Answer
 fn work(alloc: Global, cell: &NodeCell, pass: Pass, caller: u32) -> Logged
     requires cell { pass.cell ≡ cell.now }
     requires caller { HasCaller pass caller }
-    ensures same { result.0 ≡ at_front pass result.0.front }
+    ensures same { result.0 ≡ continuing pass result.0 }
 {
     let mut pass = pass;
     let mut log = Vec::new(alloc);
@@ -268,8 +268,8 @@ fn work_in_pairs<R: Threads + Sync>(
     requires right_cell { right.cell ≡ cell.now }
     requires left { HasCaller left caller }
     requires right { HasCaller right (caller + 1) }
-    ensures left { result.0.0 ≡ at_front left result.0.0.front }
-    ensures right { result.1.0 ≡ at_front right result.1.0.front }
+    ensures left { result.0.0 ≡ continuing left result.0.0 }
+    ensures right { result.1.0 ≡ continuing right result.1.0 }
 {
     let next = caller + 1;
     thread::join(
@@ -285,9 +285,9 @@ fn split_in_four(cell: &NodeCell, pass: Pass) -> ((Pass, Pass), (Pass, Pass))
     requires all { HasAll pass }
     requires four { pass.callers ≡ 4 }
     ensures first { result.0.0 ≡ record pass { first = 0; end = 1; keeps = false } }
-    ensures second { result.0.1 ≡ record pass { first = 1; end = 2; keeps = false } }
-    ensures third { result.1.0 ≡ record pass { first = 2; end = 3; keeps = false } }
-    ensures fourth { result.1.1 ≡ record pass { first = 3; end = 4; keeps = false } }
+    ensures second { result.0.1 ≡ record pass { first = 1; end = 2; keeps = false; locks = 0; misses = 0 } }
+    ensures third { result.1.0 ≡ record pass { first = 2; end = 3; keeps = false; locks = 0; misses = 0 } }
+    ensures fourth { result.1.1 ≡ record pass { first = 3; end = 4; keeps = false; locks = 0; misses = 0 } }
 {
     let (low, high) = cell.split(pass, 2);
     (cell.split(low, 1), cell.split(high, 3))
@@ -311,20 +311,20 @@ fn work_in_fours<R: Threads + Sync>(
     requires second { HasCaller b 1 }
     requires third { HasCaller c 2 }
     requires fourth { HasCaller d 3 }
-    ensures first { result.0.0.0 ≡ at_front a result.0.0.0.front }
-    ensures second { result.0.1.0 ≡ at_front b result.0.1.0.front }
-    ensures third { result.1.0.0 ≡ at_front c result.1.0.0.front }
-    ensures fourth { result.1.1.0 ≡ at_front d result.1.1.0.front }
+    ensures first { result.0.0.0 ≡ continuing a result.0.0.0 }
+    ensures second { result.0.1.0 ≡ continuing b result.0.1.0 }
+    ensures third { result.1.0.0 ≡ continuing c result.1.0.0 }
+    ensures fourth { result.1.1.0 ≡ continuing d result.1.1.0 }
 {
     thread::join(
         rt,
         move || -> (Logged, Logged)
             requires { IsSync R.row × (a.cell ≡ cell.now) × (b.cell ≡ cell.now) × HasCaller a 0 × HasCaller b 1 }
-            ensures { (result.0.0 ≡ at_front a result.0.0.front) × (result.1.0 ≡ at_front b result.1.0.front) }
+            ensures { (result.0.0 ≡ continuing a result.0.0) × (result.1.0 ≡ continuing b result.1.0) }
         { work_in_pairs(rt, alloc, cell, a, b, 0) },
         move || -> (Logged, Logged)
             requires { IsSync R.row × (c.cell ≡ cell.now) × (d.cell ≡ cell.now) × HasCaller c 2 × HasCaller d 3 }
-            ensures { (result.0.0 ≡ at_front c result.0.0.front) × (result.1.0 ≡ at_front d result.1.0.front) }
+            ensures { (result.0.0 ≡ continuing c result.0.0) × (result.1.0 ≡ continuing d result.1.0) }
         { work_in_pairs(rt, alloc, cell, c, d, 2) },
     )
 }

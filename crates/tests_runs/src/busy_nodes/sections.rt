@@ -1,10 +1,12 @@
 //! Sections on one node of two callers, from its making on. Want of memory is returned, so that each allocation can be made to fail.
 ghost use Rattle.std.specs.Prelude.{◌≡◌, ◌<◌, ◌^◌, [], ◌∷◌, All, IfOk, length};
 ghost use Rattle.thp_run.specs.Listed.{WorksOn};
-ghost use Rattle.thp_worker.specs.Prelude.{IsStep, Goes, SameHolding, HasNoBatch, fronts_in, IsWorkFor};
+ghost use Rattle.thp_worker.specs.Prelude.{IsStep, Goes, SameHolding, HasNoBatch, IsWorkFor};
+ghost use Rattle.thp_run.specs.Passes.{fronts_in};
 ghost use Rattle.thp_cell.specs.Prelude.{HasAll};
 ghost use Rattle.tests_runs.specs.Sharing.{OfTwo, WasWorked};
 
+use crate::busy_nodes::one_node::OneNode;
 use crate::busy_nodes::stutter::Stutter;
 use std::alloc::{AllocError, Global};
 use std::process::Abort;
@@ -12,7 +14,7 @@ use thp_cell::{CellFault, NodeCell, Pass};
 use thp_history::{PageId, Refusal, Shape};
 use thp_node::{Node, ScanReply};
 use thp_run::{Worked, work, work_rest};
-use thp_worker::{Answer, Command, NoGate, NodePass, NodePasses, Op, Reply, Step, Steps};
+use thp_worker::{Answer, Command, NoGate, NodePass, Op, Reply, Step, Steps};
 
 // A node of 16 blocks of order 9, for two callers.
 pub fn cell_of(alloc: Global) -> Result<(NodeCell, Pass), AllocError>
@@ -39,7 +41,7 @@ pub fn passes_of<'a>(
     alloc: Global,
     cell: &'a NodeCell,
     pass: Pass,
-) -> Result<NodePasses<'a>, AllocError>
+) -> Result<OneNode<'a>, AllocError>
     requires cell { pass.cell ≡ cell.now }
     requires callers { pass.callers ≡ 2 }
     requires first { pass.first ≡ 0 }
@@ -48,14 +50,11 @@ pub fn passes_of<'a>(
     ensures shut { IfOk result (λ r. HasNoBatch 1 (fronts_in r)) }
     ensures cells { IfOk result (λ r. (fronts_in r).cells ≡ cell.now ∷ []) }
 {
-    let node = NodePass::new(alloc, cell, pass)?;
-    let mut nodes = Vec::new(alloc);
-    nodes.push(node)?;
-    Ok(NodePasses::new(nodes, 2, 0, 2))
+    Ok(OneNode::new(NodePass::new(alloc, cell, pass)?))
 }
 
 // One step of a caller on the node.
-pub fn step(passes: &mut NodePasses<'_>, caller: u32, step: Step) -> Result<Reply, CellFault>
+pub fn step(passes: &mut OneNode<'_>, caller: u32, step: Step) -> Result<Reply, CellFault>
     requires two { OfTwo (fronts_in passes.old) }
     requires caller { caller < 2 }
     requires step { IsStep step }
@@ -76,10 +75,10 @@ pub struct BusyCalls {
 // A section of caller 1 on a node that is busy at chosen calls.
 pub fn begin<'a>(
     alloc: Global,
-    passes: NodePasses<'a>,
+    passes: OneNode<'a>,
     busy: BusyCalls,
     commands: &[Command],
-) -> Result<(NodePasses<'a>, Worked), AllocError>
+) -> Result<(OneNode<'a>, Worked), AllocError>
     requires two { OfTwo (fronts_in passes) }
     requires shut { HasNoBatch 1 (fronts_in passes) }
     requires few { length commands.now < 2 ^ 32 }
@@ -109,7 +108,7 @@ pub fn begin<'a>(
 // What is left of the section, on a node that is never busy.
 pub fn go_on(
     alloc: Global,
-    passes: &mut NodePasses<'_>,
+    passes: &mut OneNode<'_>,
     commands: &[Command],
     worked: Worked,
 ) -> Result<Worked, AllocError>
@@ -135,7 +134,7 @@ fn answered(rt: &impl Abort, called: Result<Reply, CellFault>) -> Result<Reply, 
 }
 
 // Allocates the next page and unmaps its first subpage, so that it is queued.
-fn queue(rt: &impl Abort, passes: &mut NodePasses<'_>, page: u64) -> Result<(), AllocError>
+fn queue(rt: &impl Abort, passes: &mut OneNode<'_>, page: u64) -> Result<(), AllocError>
     requires two { OfTwo (fronts_in passes.old) }
     ensures two { OfTwo (fronts_in passes.new) }
     ensures goes { Goes 0 (fronts_in passes.old) (fronts_in passes.new) }
@@ -158,7 +157,7 @@ fn queue(rt: &impl Abort, passes: &mut NodePasses<'_>, page: u64) -> Result<(), 
 }
 
 // Queues the next page, and pins it.
-fn queue_pinned(rt: &impl Abort, passes: &mut NodePasses<'_>, page: u64) -> Result<(), AllocError>
+fn queue_pinned(rt: &impl Abort, passes: &mut OneNode<'_>, page: u64) -> Result<(), AllocError>
     requires two { OfTwo (fronts_in passes.old) }
     requires shut { HasNoBatch 1 (fronts_in passes.old) }
     ensures two { OfTwo (fronts_in passes.new) }
@@ -175,7 +174,7 @@ fn queue_pinned(rt: &impl Abort, passes: &mut NodePasses<'_>, page: u64) -> Resu
 }
 
 // Pages 0 and 1 are queued, and page 1 is pinned.
-fn queue_two(rt: &impl Abort, passes: &mut NodePasses<'_>) -> Result<(), AllocError>
+fn queue_two(rt: &impl Abort, passes: &mut OneNode<'_>) -> Result<(), AllocError>
     requires two { OfTwo (fronts_in passes.old) }
     requires shut { HasNoBatch 1 (fronts_in passes.old) }
     ensures two { OfTwo (fronts_in passes.new) }
@@ -197,11 +196,7 @@ pub enum Queued {
     TwoOnePinned,
 }
 
-fn queue_before(
-    rt: &impl Abort,
-    passes: &mut NodePasses<'_>,
-    queued: Queued,
-) -> Result<(), AllocError>
+fn queue_before(rt: &impl Abort, passes: &mut OneNode<'_>, queued: Queued) -> Result<(), AllocError>
     requires two { OfTwo (fronts_in passes.old) }
     requires shut { HasNoBatch 1 (fronts_in passes.old) }
     ensures two { OfTwo (fronts_in passes.new) }
@@ -216,16 +211,12 @@ fn queue_before(
 }
 
 // The pass of the only node.
-fn pass_of(passes: NodePasses<'_>) -> Pass
+fn pass_of(passes: OneNode<'_>) -> Pass
     requires two { OfTwo (fronts_in passes) }
     ensures cell { (fronts_in passes.entry).cells ≡ result.cell ∷ [] }
     ensures all { HasAll result }
 {
-    let mut nodes = passes.into_nodes();
-    let Some(node) = nodes.pop() else {
-        unreachable!();
-    };
-    node.into_pass()
+    passes.into_node().into_pass()
 }
 
 // A copy of answers.

@@ -1,9 +1,10 @@
 //! Nodes that are busy at chosen calls.
 ghost use Rattle.std.specs.Prelude.{◌≡◌};
-ghost use Rattle.thp_worker.specs.Prelude.{fronts_in};
+ghost use Rattle.thp_run.specs.Passes.{fronts_in};
 
+use crate::busy_nodes::one_node::OneNode;
 use thp_cell::CellFault;
-use thp_worker::{NodePasses, Reply, Step, Steps};
+use thp_worker::{Reply, Step, Steps};
 
 /// Nodes that return `Busy` to the calls from `from` on and before `to`, counted from 0 and again after each `period`, and pass
 /// all others on.
@@ -11,7 +12,7 @@ use thp_worker::{NodePasses, Reply, Step, Steps};
 /// They count as shared with another holder, since a holder of all callers is never busy.
 #[derive(Drop)]
 pub struct Stutter<'a> {
-    pub inner: NodePasses<'a>,
+    pub inner: OneNode<'a>,
     pub calls: u32,
     pub from: u32,
     pub to: u32,
@@ -19,7 +20,7 @@ pub struct Stutter<'a> {
 }
 
 impl<'a> Steps for Stutter<'a> {
-    ghost use Rattle.thp_worker.specs.Prelude.{fronts_in};
+    ghost use Rattle.thp_run.specs.Passes.{fronts_in};
     ghost use Rattle.tests_runs.specs.Sharing.{shared};
 
     ghost fronts = { λ s. shared (fronts_in s.inner) };

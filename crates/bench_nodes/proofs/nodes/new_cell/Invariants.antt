@@ -1,6 +1,6 @@
 use Rattle.std.proofs.Common.{◌≡◌}
-use Rattle.thp_cell.specs.Prelude.{at_front}
+use Rattle.thp_cell.specs.Prelude.{continuing}
 use Rattle.bench_nodes.proofs.nodes.new_cell.Given as goal
 
 abbrev pub invariant-loop-page : goal.invariant-loop-page
-invariant-loop-page l = l.pass ≡ at_front l.initial.pass l.pass.front
+invariant-loop-page l = l.pass ≡ continuing l.initial.pass l.pass

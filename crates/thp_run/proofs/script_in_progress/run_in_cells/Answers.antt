@@ -1,6 +1,6 @@
 use Rattle.std.proofs.Common.{◌∙◌, Err, ap}
 use Rattle.std.proofs.lemmas.Result.{err_from_is_err_and}
-use Rattle.thp_worker.specs.Prelude.{fronts_in}
+use Rattle.thp_run.specs.Passes.{fronts_in}
 use Rattle.thp_script.specs.Prelude.{after_setup}
 use Rattle.thp_run.proofs.BegunLaws.{begun_read, ends_at_fault, read_whole, reads_none}
 use Rattle.thp_run.proofs.script_in_progress.run_in_cells.Goals as goal

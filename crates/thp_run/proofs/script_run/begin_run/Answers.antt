@@ -2,8 +2,9 @@ use Rattle.std.proofs.Common.{◌≡◌, ◌∙◌, ◌∷◌, ◌+◌, ◌≤�
 use Rattle.std.proofs.lemmas.List.Elements.{All-tail, All-head}
 use Rattle.std.specs.Vec.Iter.{into_iter_items}
 use Rattle.thp_cell.specs.Prelude.{PassState}
-use Rattle.thp_worker.specs.Prelude.{Fronts, fronts_in}
-use Rattle.thp_worker.proofs.EachLaws.{each_keeps}
+use Rattle.thp_worker.specs.Prelude.{Fronts}
+use Rattle.thp_run.specs.Passes.{fronts_in}
+use Rattle.thp_run.proofs.EachLaws.{each_keeps}
 use Rattle.thp_worker.proofs.StepLaws.{goes_refl}
 use Rattle.thp_run.specs.Sharing.{cell_of, IsUnused}
 use Rattle.thp_run.proofs.BegunRunLaws.{new_few}

@@ -1,7 +1,8 @@
 use Rattle.std.proofs.Common.{◌∙◌, ◌++◌, rules, subst, sym, All}
 use denote.Param.Send.{param_send, arg_send}
-use Rattle.thp_worker.specs.Prelude.{DidFirst, fronts_in, IsWorkFor}
-use Rattle.thp_worker.proofs.Crosses.{node_passes_send}
+use Rattle.thp_worker.specs.Prelude.{DidFirst, IsWorkFor}
+use Rattle.thp_run.specs.Passes.{fronts_in}
+use Rattle.thp_run.proofs.Crosses.{node_passes_send}
 use Rattle.thp_run.specs.Sharing.{AreFew}
 use Rattle.thp_run.proofs.BegunRunLaws.{begun_all, begun_nodes, begun_runs, begun_set_up}
 use Rattle.thp_run.proofs.SharingLaws.{commands_fit}

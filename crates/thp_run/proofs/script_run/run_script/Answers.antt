@@ -1,5 +1,5 @@
 use Rattle.std.proofs.Common.{[]}
-use Rattle.thp_worker.specs.Prelude.{fronts_in}
+use Rattle.thp_run.specs.Passes.{fronts_in}
 use Rattle.thp_run.proofs.script_run.run_script.Goals as goal
 
 pub end_run-requires-clause-begun : goal.end_run-requires-clause-begun

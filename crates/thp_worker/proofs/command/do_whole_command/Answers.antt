@@ -1,7 +1,10 @@
 use Rattle.std.proofs.Common.{refl, inl}
 use Rattle.thp_worker.specs.Prelude.{no_progress}
-use Rattle.thp_worker.proofs.CommandLaws.{one_done}
+use Rattle.thp_worker.proofs.CommandLaws.{one_done, step_wants}
 use Rattle.thp_worker.proofs.command.do_whole_command.Goals as goal
 
 pub returns-else-is_scan-clause-proceeds : goal.returns-else-is_scan-clause-proceeds
 returns-else-is_scan-clause-proceeds g c = (no_progress, one_done _ _ c.requires.caller c.requires.command (inl refl) (cc) (rw (c.next_step-step.ensures, c.no_progress.ensures) at c.try_step.ensures.done))
+
+pub returns-else-is_scan-clause-wants : goal.returns-else-is_scan-clause-wants
+returns-else-is_scan-clause-wants g c = step_wants _ c.args.command.now _ _ _ _ c.next_step-step.ensures c.try_step.result c.try_step.new.reply c.try_step.ensures.done

@@ -1,9 +1,9 @@
-use Rattle.std.proofs.Common.{◌≡◌, ◌∙◌, ◌<◌, ℕ, Bool, List, arith, get_or, length, sym, refl, false, length-set}
+use Rattle.std.proofs.Common.{◌≡◌, ◌∙◌, ◌<◌, ℕ, Bool, List, arith, get_or, inr, length, sym, refl, false, length-set}
 use Rattle.std.proofs.lemmas.Option.{slice_get-get_or}
 use Rattle.thp_history.proofs.Options.{not_there}
-use Rattle.thp_worker.specs.Prelude.{Reaction, answer_of, no_progress, PutsBack}
+use Rattle.thp_worker.specs.Prelude.{Reaction, answer_of, no_progress, put_back_on, PutsBack}
 use Rattle.thp_worker.proofs.StepLaws.{goes_trans}
-use Rattle.thp_worker.proofs.CommandLaws.{cell_comes}
+use Rattle.thp_worker.proofs.CommandLaws.{cell_comes, if_err, may_want}
 use Rattle.thp_worker.proofs.SectionLaws.{room_for_one, ends_more, ends_stop, puts_back_comes, shut_more, shut_put, not_open, works_end, works_closing}
 use Rattle.thp_worker.proofs.working.close.Goals.{then-index+in_ok-result_unless_busy+in-Some, else-index}
 use Rattle.thp_worker.proofs.working.close.Goals as goal
@@ -78,3 +78,7 @@ pub returns-clause-works : goal.returns-clause-works
 returns-clause-works g c =
     let inv = c.loop-node.invariant in
     λ old commands count e. rw inv.same (works_end _ _ _ _ _ _ _ c.loop-node.node (rw count c.requires.room) (inv.ends old commands e) (omega (arith, c.loop-node-test.false, c.nodes-nodes.ensures, e.grows.same.nodes)) inv.shut)
+
+pub returns-in_err-result_unless_busy-clause-wants : goal.returns-in_err-result_unless_busy-clause-wants
+returns-in_err-result_unless_busy-clause-wants g c =
+    if_err _ _ (may_want _ _ (put_back_on c.loop-node.node) _ _ _ (inr refl) c.loop-node.invariant.goes (c.do_command-called.ensures.wants c.in_err-result_unless_busy.ensures.lacking))

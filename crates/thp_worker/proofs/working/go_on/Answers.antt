@@ -1,6 +1,7 @@
-use Rattle.std.proofs.Common.{◌≡◌, ◌∙◌, ap, arith, length, refl, rules, sym, Some, slice_get, length-set}
+use Rattle.std.proofs.Common.{◌≡◌, ◌∙◌, ap, arith, inl, length, refl, rules, sym, Some, slice_get, length-set}
 use Rattle.thp_history.proofs.Options.{not_there}
 use Rattle.thp_worker.proofs.StepLaws.{goes_trans, goes_refl}
+use Rattle.thp_worker.proofs.CommandLaws.{if_err, if_err_map, may_want, may_want_later}
 use Rattle.thp_worker.proofs.ReadCommands.{read_at, read_fits}
 use Rattle.thp_worker.proofs.SectionLaws.{begun_on, begins_reported, begins_stop, ends_first, works_stop}
 use Rattle.thp_worker.proofs.working.go_on.Goals as goal
@@ -75,3 +76,10 @@ pub returns-clause-done : goal.returns-clause-done
 returns-clause-done g c = λ all.
     let same = c.loop-index.invariant.goes.same in
     c.close.ensures.done (record { low = same.first ∙ all.low; high = same.end ∙ all.high ∙ sym same.callers })
+
+pub returns-in_err-said-clause-wants : goal.returns-in_err-said-clause-wants
+returns-in_err-said-clause-wants g c =
+    if_err _ _ (may_want _ _ c.index-commands-index.result _ _ _ (inl (c.loop-index.index, read_at _ _ _ c.loop-index-test.true c.index-commands-index.is)) c.loop-index.invariant.goes (c.do_command-called.ensures.wants c.in_err-said.ensures.lacking))
+
+pub returns-clause-wants : goal.returns-clause-wants
+returns-clause-wants g c = if_err_map _ _ _ (may_want_later _ _ _ _ _ c.loop-index.invariant.goes) c.close.ensures.wants

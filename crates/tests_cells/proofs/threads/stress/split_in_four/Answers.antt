@@ -35,4 +35,4 @@ returns-clause-third c = c.split-2.ensures.left ∙ ap (λ (p : PassState). belo
 pub returns-clause-fourth : goal.returns-clause-fourth
 returns-clause-fourth c =
     c.split-2.ensures.right ∙ (ap (λ (p : PassState). from p 3) c.split-low.ensures.right
-    ∙ ap (λ (n : ℕ). record c.args.pass { first = 3; end = n; keeps = false }) (c.requires.all.to ∙ c.requires.four))
+    ∙ ap (λ (n : ℕ). record c.args.pass { first = 3; end = n; keeps = false; locks = 0; misses = 0 }) (c.requires.all.to ∙ c.requires.four))

@@ -1,4 +1,4 @@
-use Rattle.thp_worker.specs.Prelude.{fronts_in}
+use Rattle.thp_run.specs.Passes.{fronts_in}
 use Rattle.thp_worker.proofs.StepLaws.{goes_trans}
 use Rattle.tests_runs.proofs.busy_nodes.sections.queue.Goals as goal
 

@@ -1,5 +1,6 @@
 use Rattle.std.proofs.Common.{◌∙◌, ◌++◌, subst, sym, ap, All}
-use Rattle.thp_worker.specs.Prelude.{DidFirst, fronts_in, IsWorkFor}
+use Rattle.thp_worker.specs.Prelude.{DidFirst, IsWorkFor}
+use Rattle.thp_run.specs.Passes.{fronts_in}
 use Rattle.thp_script.specs.Parts.{first_section}
 use Rattle.thp_script.specs.declared.settings.Settings.{Settings}
 use Rattle.thp_run.proofs.SharingLaws.{commands_fit}

@@ -6,7 +6,7 @@ use Rattle.thp_history.specs.declared.events.What.TheVariants as what
 use Rattle.thp_history.specs.declared.page_call.PageCall.TheVariants as either
 use Rattle.thp_worker.specs.Prelude.{Held, node_call_of}
 use Rattle.thp_worker.specs.declared.steps.NodeCall.TheVariants as node
-use Rattle.thp_worker.proofs.HoldingLaws.{alloc_reported, count_done, held_stays, unit_done}
+use Rattle.thp_worker.proofs.HoldingLaws.{alloc_reported, continues, count_done, held_stays, unit_done}
 use Rattle.thp_worker.proofs.node_pass.NodePass.call.Goals as goal
 
 pub returns-in-Alloc : goal.returns-in-Alloc
@@ -61,7 +61,7 @@ pub invariant_of-self-in-Close : goal.invariant_of-self-in-Close
 invariant_of-self-in-Close g c = held_stays _ _ _ _ c.self-in-Close.invariant c.close.ensures.same c.close.ensures.batches
 
 pub invariant_of-self-in-Count : goal.invariant_of-self-in-Count
-invariant_of-self-in-Count g c = held_stays _ _ _ _ c.self-in-Count.invariant c.count.ensures.follows.same c.count.ensures.follows.batches
+invariant_of-self-in-Count g c = held_stays _ c.self-in-Count.inside.pass c.count.new.pass _ c.self-in-Count.invariant (continues c.self-in-Count.inside.pass c.count.new.pass c.count.ensures.follows.same) c.count.ensures.follows.batches
 
 pub count-requires : goal.count-requires
 count-requires g c = c.self-in-Count.invariant.cell_is

@@ -1,4 +1,4 @@
-use Rattle.thp_worker.specs.Prelude.{fronts_in}
+use Rattle.thp_run.specs.Passes.{fronts_in}
 use Rattle.tests_runs.proofs.SharingLaws.{step_shared}
 use Rattle.tests_runs.proofs.busy_nodes.stutter.StutterSteps.step.Goals as goal
 

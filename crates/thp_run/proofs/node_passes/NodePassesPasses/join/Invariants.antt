@@ -1,7 +1,8 @@
 use Rattle.std.proofs.Common.{◌≡◌, ◌++◌, List, length}
 use Rattle.std.specs.Vec.Iter.{into_iter_items, into_iter_len}
-use Rattle.thp_worker.specs.Prelude.{Held, EachAdjoins, EachJoint}
-use Rattle.thp_worker.proofs.node_passes.NodePassesPasses.join.Given as goal
+use Rattle.thp_worker.specs.Prelude.{Held}
+use Rattle.thp_run.specs.Passes.{EachAdjoins, EachJoint}
+use Rattle.thp_run.proofs.node_passes.NodePassesPasses.join.Given as goal
 
 abbrev pub invariant-loop-low : goal.invariant-loop-low
 invariant-loop-low g l = record {

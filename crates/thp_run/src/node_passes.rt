@@ -1,19 +1,17 @@
 //! Passes of all nodes, with the open batches of their callers.
-ghost use Rattle.std.specs.Prelude.{◌≡◌, ◌<◌, All, IfOk, map};
-ghost use Rattle.thp_worker.specs.Prelude.{Agree, HoldsAllCallers, IsOfAll, fronts_in, keeping_node};
+ghost use Rattle.std.specs.Prelude.{◌≡◌, ◌<◌, All, IfOk, Some, map, slice_get};
+ghost use Rattle.thp_worker.specs.Prelude.{Goes, Held, HeldDone, HoldsAllCallers, HoldsCaller, IsStep, StepDone, answer_of, keeping_node};
+ghost use Rattle.thp_run.specs.Passes.{Agree, IsOfAll, fronts_in};
 
-use crate::halves::Passes;
-use crate::node_pass::NodePass;
-use crate::reply::Reply;
-use crate::steps::{Step, Steps};
 use std::alloc::{AllocError, Global};
 use std::marker::Model;
 use thp_cell::CellFault;
-use thp_node::{FullLog, Recorder};
+use thp_node::Recorder;
+use thp_worker::{NodePass, Passes, Reply, Step, Steps};
 
 /// A pass of each node, all with the same callers. Contracts see what the holder knows of the nodes.
 #[derive(Drop)]
-pub struct NodePasses<'a, R: Recorder = FullLog> {
+pub(crate) struct NodePasses<'a, R: Recorder> {
     callers: u32,
     first: u32,
     end: u32,
@@ -21,7 +19,7 @@ pub struct NodePasses<'a, R: Recorder = FullLog> {
 }
 
 impl<'a, R: Recorder> Model for NodePasses<'a, R> {
-    ghost use Rattle.thp_worker.specs.Passes.{Passes, Agree};
+    ghost use Rattle.thp_run.specs.Passes.{Passes, Agree};
 
     ghost Value = { Passes };
 
@@ -31,7 +29,7 @@ impl<'a, R: Recorder> Model for NodePasses<'a, R> {
 }
 
 impl<'a, R: Recorder> Steps for NodePasses<'a, R> {
-    ghost use Rattle.thp_worker.specs.Passes.{fronts_in};
+    ghost use Rattle.thp_run.specs.Passes.{fronts_in};
 
     ghost fronts = { fronts_in };
 
@@ -51,14 +49,27 @@ impl<'a, R: Recorder> Steps for NodePasses<'a, R> {
         node: u32,
         step: Step,
         reply: &mut Reply,
-    ) -> Result<(), CellFault> {
+    ) -> Result<(), CellFault>
+        requires caller { HoldsCaller (fronts_in self.old) caller }
+        requires node { node < (fronts_in self.old).nodes }
+        requires step { IsStep step }
+        ensures goes { Goes caller (fronts_in self.old) (fronts_in self.new) }
+        ensures done { StepDone caller node step (fronts_in self.old) (fronts_in self.new) (answer_of result reply.new) }
+        // it is `Busy` only if a lock step on the node missed
+        ensures held { (old new : Held) → slice_get self.old.held node ≡ Some old → slice_get self.new.held node ≡ Some new → HeldDone caller step old new (answer_of result reply.new) }
+    {
         self.nodes[node as usize].step(caller, step, reply)
     }
 }
 
 impl<'a, R: Recorder> NodePasses<'a, R> {
     /// Creates the passes of the nodes, each with the callers from `first` on and below `end`, of `callers` in all.
-    pub fn new(nodes: Vec<NodePass<'a, R>>, callers: u32, first: u32, end: u32) -> NodePasses<'a, R>
+    pub(crate) fn new(
+        nodes: Vec<NodePass<'a, R>>,
+        callers: u32,
+        first: u32,
+        end: u32,
+    ) -> NodePasses<'a, R>
         requires { Agree callers first end nodes.items }
         ensures { result ≡ record { callers = callers; first = first; end = end; held = nodes.entry.items } }
     {
@@ -71,7 +82,7 @@ impl<'a, R: Recorder> NodePasses<'a, R> {
     }
 
     /// Returns the passes of the nodes.
-    pub fn into_nodes(self) -> Vec<NodePass<'a, R>>
+    pub(crate) fn into_nodes(self) -> Vec<NodePass<'a, R>>
         ensures items { result.items ≡ self.entry.held }
         ensures agree { Agree self.entry.callers self.entry.first self.entry.end result.items }
     {

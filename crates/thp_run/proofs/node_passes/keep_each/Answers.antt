@@ -1,8 +1,8 @@
 use Rattle.std.proofs.Common.{◌≡◌, ◌∙◌, ◌<◌, ◌≤◌, length, ap, arith, refl, sym, Some, slice_get}
 use Rattle.std.proofs.lemmas.Option.{slice_get_read}
-use Rattle.thp_worker.proofs.EachLaws.{kept_to, kept_none, kept_more, kept_all, kept_of_all, length-kept}
-use Rattle.thp_worker.proofs.node_passes.keep_each.Goals as goal
-use Rattle.thp_worker.proofs.node_passes.keep_each.Given.{Over}
+use Rattle.thp_run.proofs.EachLaws.{kept_to, kept_none, kept_more, kept_all, kept_of_all, length-kept}
+use Rattle.thp_run.proofs.node_passes.keep_each.Goals as goal
+use Rattle.thp_run.proofs.node_passes.keep_each.Given.{Over}
 
 pub loop-index-init : goal.loop-index-init
 loop-index-init g c = sym (kept_none c.args.nodes.now.items)

@@ -1,7 +1,7 @@
 use Rattle.std.proofs.Common.{◌∙◌, ap}
-use Rattle.thp_worker.specs.Prelude.{fronts_in, fronts_of}
-use Rattle.thp_worker.proofs.EachLaws.{agree_of_all, kept_agree, kept_fronts}
-use Rattle.thp_worker.proofs.node_passes.NodePassesPasses.keep_nodes.Goals as goal
+use Rattle.thp_run.specs.Passes.{fronts_in, fronts_of}
+use Rattle.thp_run.proofs.EachLaws.{agree_of_all, kept_agree, kept_fronts}
+use Rattle.thp_run.proofs.node_passes.NodePassesPasses.keep_nodes.Goals as goal
 
 pub keep_each-requires : goal.keep_each-requires
 keep_each-requires g c = agree_of_all _ _ _ _ (rw (← c.self.view_is) at c.requires) c.self.invariant

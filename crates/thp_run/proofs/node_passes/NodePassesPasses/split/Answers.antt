@@ -1,9 +1,10 @@
 use Rattle.std.proofs.Common.{◌≡◌, ◌∙◌, ap, arith, length, map, subst, sym, All}
 use Rattle.std.proofs.lemmas.List.Elements.{All-tail, All-head}
 use Rattle.std.specs.Vec.Iter.{into_iter_items}
-use Rattle.thp_worker.specs.Prelude.{high_part, low_part, IsCut, AreFrontsSplit, Passes, fronts_in, fronts_of}
-use Rattle.thp_worker.proofs.EachLaws.{all_done, cut_each, agree_low, agree_high, pushed, split_fronts}
-use Rattle.thp_worker.proofs.node_passes.NodePassesPasses.split.Goals as goal
+use Rattle.thp_worker.specs.Prelude.{AreFrontsSplit}
+use Rattle.thp_run.specs.Passes.{high_part, low_part, IsCut, Passes, fronts_in, fronts_of}
+use Rattle.thp_run.proofs.EachLaws.{all_done, cut_each, agree_low, agree_high, pushed, split_fronts}
+use Rattle.thp_run.proofs.node_passes.NodePassesPasses.split.Goals as goal
 
 pub loop-node-init : goal.loop-node-init
 loop-node-init g c =

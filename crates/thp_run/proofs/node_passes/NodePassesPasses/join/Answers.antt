@@ -1,9 +1,10 @@
 use Rattle.std.proofs.Common.{◌≡◌, ◌∙◌, ap, arith, length, subst, sym}
 use Rattle.std.specs.Vec.Iter.{into_iter_items}
 use Rattle.thp_history.proofs.Options.{not_there}
-use Rattle.thp_worker.specs.Prelude.{AreFrontsJoined, Passes, fronts_in, fronts_of}
-use Rattle.thp_worker.proofs.EachLaws.{adjoins_first, adjoins_some, agree_joint, each_adjoins, join_fronts, joint_end, joint_more}
-use Rattle.thp_worker.proofs.node_passes.NodePassesPasses.join.Goals as goal
+use Rattle.thp_worker.specs.Prelude.{AreFrontsJoined}
+use Rattle.thp_run.specs.Passes.{Passes, fronts_in, fronts_of}
+use Rattle.thp_run.proofs.EachLaws.{adjoins_first, adjoins_some, agree_joint, each_adjoins, join_fronts, joint_end, joint_more}
+use Rattle.thp_run.proofs.node_passes.NodePassesPasses.join.Goals as goal
 
 pub loop-low-init : goal.loop-low-init
 loop-low-init g c =

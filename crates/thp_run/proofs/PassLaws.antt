@@ -6,16 +6,18 @@ use Rattle.thp_history.specs.declared.events.Event.{Event}
 use Rattle.thp_history.specs.declared.refusal.Refusal.TheVariants.{OutOfMemory}
 use Rattle.thp_cell.specs.declared.fault.CellFault.{CellFault}
 use Rattle.thp_cell.specs.declared.fault.CellFault.TheVariants.{Busy, Refused}
-use Rattle.thp_cell.specs.Prelude.{at_front, PassState}
-use Rattle.thp_cell.specs.Views as cell
-use Rattle.thp_worker.specs.Prelude.{Step, Reply, Open, Reaction, Fronts, Moves, Answered, OutOf, IsStepBusy, StepDone, Goes, Held, Acts, HeldAnswered, HeldOutOf, HeldDone, Passes, batch_of, cell_in, shape_in, front_in, batch_in, fronts_in, fronts_of, IsOf, Agree}
-use Rattle.thp_worker.proofs.HoldingLaws.{slice_get-set_same, slice_get-set_other, set_same, length-set_same}
+use Rattle.thp_cell.specs.Prelude.{continuing, PassState}
+use Rattle.thp_worker.specs.declared.reply.Reply.{Reply}
+use Rattle.thp_worker.specs.declared.steps.Step.{Step}
+use Rattle.thp_worker.specs.Prelude.{Open, Reaction, Fronts, Moves, Answered, OutOf, IsStepBusy, StepDone, Goes, Held, Acts, HeldAnswered, HeldOutOf, HeldDone, IsHeldBusy, batch_of}
+use Rattle.thp_run.specs.Passes.{Passes, cell_in, shape_in, front_in, batch_in, fronts_in, fronts_of, IsOf, Agree}
+use Rattle.thp_worker.proofs.HoldingLaws.{slice_get-set_same, slice_get-set_other, length-set_same}
 use Rattle.thp_worker.proofs.StepLaws.{goes_refl, moves_goes}
 
--- the pass stays, but for its front
-pub done_same : (c : ℕ) (step : Step) (old new : Held) (r : Result Reply CellFault) → HeldDone c step old new r → new.pass ≡ at_front old.pass new.pass.front
+-- the pass stays, but for its front and its lock steps
+pub done_same : (c : ℕ) (step : Step) (old new : Held) (r : Result Reply CellFault) → HeldDone c step old new r → new.pass ≡ continuing old.pass new.pass
 done_same c step old new (Ok reply) d = d.acts.pass
-done_same c step old new (Err Busy) d = ap (λ (h : Held). h.pass) d.0 ∙ (λ i. at_front old.pass (ap (λ (h : Held). h.pass.front) (sym d.0) i))
+done_same c step old new (Err Busy) d = subst (λ (h : Held). h.pass ≡ continuing old.pass h.pass) (sym d.same) refl
 done_same c step old new (Err (Refused OutOfMemory)) d = d.acts.pass
 done_same c step old new (Err (Refused why)) d = d.acts.pass
 
@@ -27,7 +29,7 @@ map_set (h ∷ held) zero old new is same =
 map_set (h ∷ held) (suc n) old new is same = ap (λ l. cell_in h ∷ l) (map_set held n old new is same)
 
 -- the passes still agree
-pub agree_after : (callers first end : ℕ) (held : List Held) (n : ℕ) (old new : Held) → Agree callers first end held → slice_get held n ≡ Some old → new.pass ≡ at_front old.pass new.pass.front → Agree callers first end (set held n new)
+pub agree_after : (callers first end : ℕ) (held : List Held) (n : ℕ) (old new : Held) → Agree callers first end held → slice_get held n ≡ Some old → new.pass ≡ continuing old.pass new.pass → Agree callers first end (set held n new)
 agree_after callers first end held n old new agree is same = record {
   few = rw (length-set_same held n new) agree.few;
   each = λ m h at. by_node m h at (m == n) refl;
@@ -62,12 +64,16 @@ module _ (callers first end : ℕ) (held : List Held) (n : ℕ) (old new : Held)
   before : {A : Type 0} (f : Option Held → A) → f (slice_get held n) ≡ f (Some old)
   before f = ap f is
 
-  shapes : new.pass ≡ at_front old.pass new.pass.front → (m : ℕ) → shape_in (slice_get (set held n new) m) ≡ shape_in (slice_get held m)
-  shapes same m = by_node (m == n) refl
+  -- what the new pass shares with the old one is the same at each place
+  same_place : {A : Type 0} (f : Option Held → A) → f (Some new) ≡ f (Some old) → (m : ℕ) → f (slice_get (set held n new) m) ≡ f (slice_get held m)
+  same_place f same m = by_node (m == n) refl
     where
-      by_node : (t : Bool) → (m == n) ≡ t → shape_in (slice_get (set held n new) m) ≡ shape_in (slice_get held m)
-      by_node true e = let at : m ≡ n = eqb-true m n e in rw at (here shape_in ∙ ap (λ (p : PassState). p.shape) same ∙ sym (before shape_in))
-      by_node false e = there shape_in m (eqb-false m n e)
+      by_node : (t : Bool) → (m == n) ≡ t → f (slice_get (set held n new) m) ≡ f (slice_get held m)
+      by_node true e = let at : m ≡ n = eqb-true m n e in rw at (here f ∙ same ∙ sym (before f))
+      by_node false e = there f m (eqb-false m n e)
+
+  shapes : new.pass ≡ continuing old.pass new.pass → (m : ℕ) → shape_in (slice_get (set held n new) m) ≡ shape_in (slice_get held m)
+  shapes same = same_place shape_in (ap (λ (p : PassState). p.shape) same)
 
   batches_elsewhere : (c d m : ℕ) → ((d ≢ c) → batch_of new d ≡ batch_of old d) → ((d ≡ c) × (m ≡ n) → ⊥) → batch_in d (slice_get (set held n new) m) ≡ batch_in d (slice_get held m)
   batches_elsewhere c d m others not-both = by_node (m == n) refl
@@ -114,15 +120,24 @@ module _ (callers first end : ℕ) (held : List Held) (n : ℕ) (old new : Held)
     needs = rw (before shape_in, before front_in, before (batch_in c)) h.needs;
   }
 
-  pub busy_by : new ≡ old → (cell.HasAll old.pass → ⊥) → IsStepBusy (fronts_of callers first end held) (fronts_of callers first end (set held n new))
-  busy_by same shared = record {
-    same = ap (fronts_of callers first end) (set_same held n new (is ∙ ap (λ (h : Held). Some h) (sym same)));
-    shared = λ all. shared (record { from = of.first_is ∙ all.low; to = of.end_is ∙ all.high ∙ sym of.callers_are });
+  pub busy_by : IsHeldBusy old new → IsStepBusy (fronts_of callers first end held) (fronts_of callers first end (set held n new))
+  busy_by busy = record {
+    same = λ i. record {
+      cells = map_set held n old new is (ap cell_in busy.same) i;
+      nodes = length-set_same held n new i;
+      shape = λ m. same_place shape_in (ap (λ (h : Held). shape_in (Some h)) busy.same) m i;
+      front = λ m. same_place front_in (ap (λ (h : Held). front_in (Some h)) busy.same) m i;
+      callers = callers;
+      first = first;
+      end = end;
+      batches = λ c m. same_place (batch_in c) (ap (λ (h : Held). batch_in c (Some h)) busy.same) m i;
+    };
+    shared = λ all. busy.shared (record { from = of.first_is ∙ all.low; to = of.end_is ∙ all.high ∙ sym of.callers_are });
   }
 
   pub step_done : (c : ℕ) (step : Step) (r : Result Reply CellFault) → HeldDone c step old new r → StepDone c n step (fronts_of callers first end held) (fronts_of callers first end (set held n new)) r
   step_done c step (Ok reply) d = answered_by c step (Ok reply) d
-  step_done c step (Err Busy) d = busy_by d.0 d.1
+  step_done c step (Err Busy) d = busy_by d
   step_done c step (Err (Refused OutOfMemory)) d = out_of_by c step d
   step_done c step (Err (Refused why)) d = answered_by c step (Err why) d
 
@@ -132,6 +147,18 @@ goes_done c n step old new (Ok reply) d = moves_goes c n old new d.others d.own 
 goes_done c n step old new (Err Busy) d = rw d.same (goes_refl c old)
 goes_done c n step old new (Err (Refused OutOfMemory)) d = moves_goes c n old new d.others [] (old.batches c n) d.moves
 goes_done c n step old new (Err (Refused why)) d = moves_goes c n old new d.others d.own d.after d.moves
+
+-- and a step of the pass at this place
+pub held_made : {callers first end : ℕ} {held : List Held} {h : Passes} (c n : ℕ) (step : Step) (old new : Held) (r : Result Reply CellFault) → h ≡ record { callers = callers; first = first; end = end; held = held } → n < length h.held → old ≡ get_or held n old → HeldDone c step old new r
+    → (a b : Held) → slice_get h.held n ≡ Some a → slice_get (set held n new) n ≡ Some b → HeldDone c step a b r
+held_made {callers} {first} {end} {held} {h} c n step old new r view lt value done a b is at =
+    let here = slice_get_read held (length held) n old refl (rw view at lt) value in
+    let within : n < length held = slice_get_within held n old here in
+    subst (λ (x : Held). HeldDone c step x b r) (inner old a (sym here ∙ (rw view at is)))
+    (subst (λ (x : Held). HeldDone c step old x r) (inner new b (sym (slice_get-set_same held n new within) ∙ at)) done)
+  where
+    inner : (x y : Held) → Some x ≡ Some y → x ≡ y
+    inner x y e = cc
 
 -- a step of one node's pass is a step of the passes of all
 pub step_made : {callers first end : ℕ} {held : List Held} {h : Passes} (c n : ℕ) (step : Step) (old new : Held) (r : Result Reply CellFault) → h ≡ record { callers = callers; first = first; end = end; held = held } → Agree callers first end held → n < length h.held → old ≡ get_or held n old → HeldDone c step old new r

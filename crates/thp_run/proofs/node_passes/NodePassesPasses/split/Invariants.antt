@@ -1,7 +1,7 @@
 use Rattle.std.proofs.Common.{◌≡◌, ◌++◌, length, map, All}
 use Rattle.std.specs.Vec.Iter.{into_iter_items, into_iter_len}
-use Rattle.thp_worker.specs.Prelude.{high_part, low_part, IsCut}
-use Rattle.thp_worker.proofs.node_passes.NodePassesPasses.split.Given as goal
+use Rattle.thp_run.specs.Passes.{high_part, low_part, IsCut}
+use Rattle.thp_run.proofs.node_passes.NodePassesPasses.split.Given as goal
 
 abbrev pub invariant-loop-node : goal.invariant-loop-node
 invariant-loop-node g l = record {

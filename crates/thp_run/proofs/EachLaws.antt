@@ -3,7 +3,8 @@ use Rattle.std.proofs.Common.{◌≡◌, ◌∙◌, ◌++◌, ◌+◌, ◌<◌, 
 use Rattle.std.proofs.lemmas.List.{append-nil, length-map}
 use Rattle.std.proofs.lemmas.List.Elements.{All-nil, All-cons, All-head, All-tail}
 use Rattle.std.proofs.lemmas.Option.{slice_get-get_or}
-use Rattle.thp_worker.specs.Prelude.{HoldsAllCallers, AreFrontsSplit, CanJoin, AreFrontsJoined, Held, keeping_node, KeepsNode, cell_in, shape_in, front_in, batch_in, fronts_of, IsOf, Agree, IsCut, IsOfAll, low_part, high_part, Adjoins, IsJoint, EachAdjoins, EachJoint}
+use Rattle.thp_worker.specs.Prelude.{HoldsAllCallers, AreFrontsSplit, CanJoin, AreFrontsJoined, Held, keeping_node, KeepsNode}
+use Rattle.thp_run.specs.Passes.{cell_in, shape_in, front_in, batch_in, fronts_of, IsOf, Agree, IsCut, IsOfAll, low_part, high_part, Adjoins, IsJoint, EachAdjoins, EachJoint}
 use Rattle.thp_history.specs.Prelude.{History, events_of, IsLegal}
 use Rattle.thp_cell.specs.Prelude.{PassState}
 use Rattle.thp_worker.proofs.PartLaws.{lower_open, upper_open}
