@@ -32,7 +32,7 @@ HEADLINE = tuple(
 
 CLAIMED = (
     "headline", "thp_cell::NodeCell::finish", "thp_node::Node::scan", "thp_check::check", "thp_run::run_program",
-    "thp_c::thp_c_node_scan", "thp_c::thp_c_pass_take", "thp_c::thp_c_check_read",
+    "thp_c::thp_c_pass_take",
 )
 """What docs/PROVED.md lists the numbers of."""
 
