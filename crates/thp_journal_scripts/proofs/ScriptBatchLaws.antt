@@ -5,7 +5,7 @@ use Rattle.thp_history.specs.declared.events.Event.{Event}
 use Rattle.thp_history.specs.Prelude.{History}
 use Rattle.thp_script.specs.declared.script.Op.{Op}
 use Rattle.thp_script.specs.declared.script.Op.TheVariants as op
-use Rattle.thp_journal_scripts.specs.Prelude.{EventKind, Call, Take, Try, Put, ScriptBatch, Idle, Taking, Trying, Scanned, Open, Closing, open_by, pending_ops, settled, Completes, IsPending, PutsMore, RepeatsUpTo, TakesMore, TriesMore, nothing_moved, IsFoldedTo, IsScript, Moved, IsCallOrScan, IsWholeScans, capped_count, Interleaves, IsOfBatch, IsScan, neither, first, second, call_in, calls_in, calls_of, kind_of, AreBy, IsBy, IsScanBy, Repeats, RepeatsBy}
+use Rattle.thp_journal_scripts.specs.Prelude.{EventKind, Call, Take, Try, Put, ScriptBatch, Idle, Taking, Trying, Scanned, Open, Closing, open_by, pending_ops, settled, Completes, IsPending, PutsMore, RepeatsUpTo, TakesMore, TriesMore, nothing_moved, EndsWaiting, IsFoldedTo, IsScript, Moved, MovedSoFar, MovesBy, MovesEvent, IsCallOrScan, IsWholeScans, capped_count, Interleaves, IsOfBatch, IsScan, neither, first, second, call_in, calls_in, calls_of, kind_of, AreBy, IsBy, IsScanBy, Repeats, RepeatsBy}
 use Rattle.thp_journal_scripts.proofs.RepeatLaws.{calls_in_both, calls_of_more, is_plain, no_calls_in_tries, repeats_more, repeats_tries, IsPlain}
 
 -- ---- events of one kind
@@ -179,7 +179,7 @@ module _ {X : Type 0} where
   first_alone (first {x = x} i) = ap (λ xs. x ∷ xs) (first_alone i)
 
 -- more commands, and what the kept events then have
-module _ (h : History) (past : List Op) (b after : ScriptBatch) (n : ℕ) (f : IsFoldedTo h past b n) where
+module _ (h : History) (past : List Op) (b after : ScriptBatch) (n : MovedSoFar) (f : IsFoldedTo h past b n) where
   more_commands : (more : List Op) → calls_in more ≡ [] → RepeatsUpTo f.kept (f.here ++ more) after → IsFoldedTo h (past ++ more) after n
   more_commands more none repeats = grind (arith, batch_commands, first_more)
 
@@ -196,25 +196,25 @@ module _ (h : History) (past : List Op) (b after : ScriptBatch) (n : ℕ) (f : I
 pub settled_twice : (b : ScriptBatch) → settled (settled b) ≡ settled b
 settled_twice x = grind arith
 
-pub settles : (h : History) (past : List Op) (b : ScriptBatch) (n : ℕ) → IsFoldedTo h past b n → IsFoldedTo h (past ++ pending_ops b) (settled b) n
+pub settles : (h : History) (past : List Op) (b : ScriptBatch) (n : MovedSoFar) → IsFoldedTo h past b n → IsFoldedTo h (past ++ pending_ops b) (settled b) n
 settles h past b n f = more_commands h past b (settled b) n f (pending_ops b) (no_calls_pending b) (settle_repeats f.kept f.here b f.repeats)
 
 -- the command that completes the batch
-pub completes : (h : History) (past : List Op) (b : ScriptBatch) (n : ℕ) (o : Op) → Completes b o → IsFoldedTo h past b n → IsFoldedTo h (past ++ o ∷ []) Idle n
+pub completes : (h : History) (past : List Op) (b : ScriptBatch) (n : MovedSoFar) (o : Op) → Completes b o → IsFoldedTo h past b n → IsFoldedTo h (past ++ o ∷ []) Idle n
 completes h past b n o is f = more_commands h past b Idle n f (o ∷ []) (no_call_completes b o is) (complete_repeats f.kept f.here b o is f.repeats)
 
 -- one more event of the batch
-pub one_more_take : (h : History) (past : List Op) (b after : ScriptBatch) (n by : ℕ) (e : Event) → TakesMore b by after → IsBy by Take e → IsFoldedTo h past b n → IsFoldedTo (h ++ e ∷ []) past after n
+pub one_more_take : (h : History) (past : List Op) (b after : ScriptBatch) (n : MovedSoFar) (by : ℕ) (e : Event) → TakesMore b by after → IsBy by Take e → IsFoldedTo h past b n → IsFoldedTo (h ++ e ∷ []) past after n
 one_more_take h past b after n by e more is f = one_event h past b after n f e (ap call_in is.1) (take_repeats f.kept f.here b after by e more is f.repeats)
 
-pub one_more_try : (h : History) (past : List Op) (b after : ScriptBatch) (n by : ℕ) (e : Event) → TriesMore b by after → IsBy by Try e → IsFoldedTo h past b n → IsFoldedTo (h ++ e ∷ []) past after n
+pub one_more_try : (h : History) (past : List Op) (b after : ScriptBatch) (n : MovedSoFar) (by : ℕ) (e : Event) → TriesMore b by after → IsBy by Try e → IsFoldedTo h past b n → IsFoldedTo (h ++ e ∷ []) past after n
 one_more_try h past b after n by e more is f = one_event h past b after n f e (ap call_in is.1) (try_repeats f.kept f.here b after by e more is f.repeats)
 
-pub one_more_put : (h : History) (past : List Op) (b after : ScriptBatch) (n by : ℕ) (e : Event) → PutsMore b by after → IsBy by Put e → IsFoldedTo h past b n → IsFoldedTo (h ++ e ∷ []) past after n
+pub one_more_put : (h : History) (past : List Op) (b after : ScriptBatch) (n : MovedSoFar) (by : ℕ) (e : Event) → PutsMore b by after → IsBy by Put e → IsFoldedTo h past b n → IsFoldedTo (h ++ e ∷ []) past after n
 one_more_put h past b after n by e more is f = one_event h past b after n f e (ap call_in is.1) (put_repeats f.kept f.here b after by e more is f.repeats)
 
 -- a call, once the events before it have their commands
-pub one_more_call : (h : History) (past : List Op) (b : ScriptBatch) (n : ℕ) (e : Event) (o : Op) → kind_of e.what ≡ Call o → IsFoldedTo h past (settled b) n → IsFoldedTo (h ++ e ∷ []) (past ++ o ∷ []) (settled b) n
+pub one_more_call : (h : History) (past : List Op) (b : ScriptBatch) (n : MovedSoFar) (e : Event) (o : Op) → kind_of e.what ≡ Call o → IsFoldedTo h past (settled b) n → IsFoldedTo (h ++ e ∷ []) (past ++ o ∷ []) (settled b) n
 one_more_call h past b n e o is f =
     let plain : IsPlain (Call o) = subst IsPlain is (is_plain e.what) in
     let own : calls_in (o ∷ []) ≡ o ∷ [] = ap (λ t. cond t (o ∷ []) []) plain.0 in
@@ -222,28 +222,28 @@ one_more_call h past b n e o is f =
     (call_repeats f.kept f.here b e o is f.repeats)
 
 -- the first take of a batch
-pub first_take : (h : History) (past : List Op) (n c : ℕ) (e : Event) → IsBy c Take e → IsFoldedTo h past Idle n → IsFoldedTo (h ++ e ∷ []) past (Taking c 1) n
+pub first_take : (h : History) (past : List Op) (n : MovedSoFar) (c : ℕ) (e : Event) → IsBy c Take e → IsFoldedTo h past Idle n → IsFoldedTo (h ++ e ∷ []) past (Taking c 1) n
 first_take h past n c e is f =
     let r : RepeatsUpTo f.kept f.here Idle = f.repeats in
     one_event h past Idle (Taking c 1) n f e (ap call_in is.1)
     (pending_more f.kept f.here Idle (Taking c 1) e r refl (subst (λ g. AreBy c Take 1 (g ++ e ∷ [])) (sym r.pending_is) (one_by c Take e is)))
 
 -- a try of the open batch
-pub open_try : (h : History) (past : List Op) (n c : ℕ) (e : Event) → IsBy c Try e → IsFoldedTo h past (Open c) n → IsFoldedTo (h ++ e ∷ []) (past ++ op.SplitNext ∷ []) (Open c) n
+pub open_try : (h : History) (past : List Op) (n : MovedSoFar) (c : ℕ) (e : Event) → IsBy c Try e → IsFoldedTo h past (Open c) n → IsFoldedTo (h ++ e ∷ []) (past ++ op.SplitNext ∷ []) (Open c) n
 open_try h past n c e is f =
     let r : RepeatsUpTo f.kept f.here (Open c) = f.repeats in
     more_events h past (Open c) (Open c) n f (op.SplitNext ∷ []) e (batch_commands (h ++ e ∷ []) past (op.SplitNext ∷ []) (batch_event h past e f.calls (ap call_in is.1)) refl)
     (plain_repeats f.kept f.here (Open c) e op.SplitNext r r.pending_is refl (c, refl, one_by c Try e is, refl))
 
 -- the first page of the open batch that is put back
-pub open_put : (h : History) (past : List Op) (n c : ℕ) (e : Event) → IsBy c Put e → IsFoldedTo h past (Open c) n → IsFoldedTo (h ++ e ∷ []) past (Closing c) n
+pub open_put : (h : History) (past : List Op) (n : MovedSoFar) (c : ℕ) (e : Event) → IsBy c Put e → IsFoldedTo h past (Open c) n → IsFoldedTo (h ++ e ∷ []) past (Closing c) n
 open_put h past n c e is f =
     let r : RepeatsUpTo f.kept f.here (Open c) = f.repeats in
     one_event h past (Open c) (Closing c) n f e (ap call_in is.1)
     (pending_more f.kept f.here (Open c) (Closing c) e r refl (subst (λ g. All (IsBy c Put) (g ++ e ∷ [])) (sym r.pending_is) (All-cons (IsBy c Put) e [] is (All-nil (IsBy c Put)))))
 
 -- a put back of no page
-pub puts_nothing : (h : History) (past : List Op) (n c : ℕ) → IsFoldedTo h past (Open c) n → IsFoldedTo h (past ++ op.PutBack ∷ []) Idle n
+pub puts_nothing : (h : History) (past : List Op) (n : MovedSoFar) (c : ℕ) → IsFoldedTo h past (Open c) n → IsFoldedTo h (past ++ op.PutBack ∷ []) Idle n
 puts_nothing h past n c f =
     let r : RepeatsUpTo f.kept f.here (Open c) = f.repeats in
     more_commands h past (Open c) Idle n f (op.PutBack ∷ []) refl
@@ -251,8 +251,8 @@ puts_nothing h past n c f =
 
 -- ---- out of order
 
--- an event of a flight that waits
-pub waits : (h : History) (past : List Op) (b : ScriptBatch) (n m : ℕ) (e : Event) → call_in (kind_of e.what) ≡ [] → m ≡ capped_count (n + 1) → IsFoldedTo h past b n → IsFoldedTo (h ++ e ∷ []) past b m
+-- an event that is not at its place
+pub waits : (h : History) (past : List Op) (b : ScriptBatch) (n m : MovedSoFar) (e : Event) → call_in (kind_of e.what) ≡ [] → MovesEvent n m → IsFoldedTo h past b n → IsFoldedTo (h ++ e ∷ []) past b m
 waits h past b n m e none more f =
     let longer : length (f.away ++ e ∷ []) ≡ length f.away + 1 = length-append f.away (e ∷ []) in
     record {
@@ -266,32 +266,44 @@ waits h past b n m e none more f =
       repeats = f.repeats;
       away_are = All-append IsOfBatch f.away (e ∷ []) f.away_are (All-cons IsOfBatch e [] none (All-nil IsOfBatch));
       late_are = f.late_are;
-      count = count_more n m (length f.away) (length (f.away ++ e ∷ [])) more f.count longer;
-      none_late = λ zero. absurd (never_zero n m more zero);
+      count = count_more n.events m.events (length f.away) (length (f.away ++ e ∷ [])) more.1 f.count longer;
+      batches = batches_more m.batches (length f.late) n.waiting m.waiting more.0 (more.2 (length f.late + n.waiting) f.batches) more.3;
+      none_late = λ zero. absurd (never_zero n.events m.events more.1 zero);
+      none_waits = λ zero. absurd (never_zero n.events m.events more.1 zero);
     }
   where
     count_more : (n m k l : ℕ) → m ≡ capped_count (n + 1) → n ≡ capped_count k → l ≡ k + 1 → m ≡ capped_count l
     count_more n m k l more count longer = omega arith
 
+    batches_more : (m l v w k : ℕ) → m ≡ capped_count ((l + v) + k) → w ≡ v + k → m ≡ capped_count (l + w)
+    batches_more m l v w k more longer = omega arith
+
     never_zero : (n m : ℕ) → m ≡ capped_count (n + 1) → m ≡ 0 → ⊥
     never_zero n m more zero = omega arith
 
--- the scan of one
-pub scans : (h : History) (past : List Op) (b : ScriptBatch) (n k : ℕ) → (n ≡ 0 → ⊥) → IsFoldedTo h past b n → IsFoldedTo h (past ++ op.Scan k ∷ []) b n
-scans h past b n k some f = record {
-  calls = batch_commands h past (op.Scan k ∷ []) f.calls refl;
-  kept = f.kept;
-  away = f.away;
-  here = f.here;
-  late = f.late ++ op.Scan k ∷ [];
-  events_are = f.events_are;
-  commands_are = second_more (op.Scan k) f.commands_are;
-  repeats = f.repeats;
-  away_are = f.away_are;
-  late_are = All-append IsScan f.late (op.Scan k ∷ []) f.late_are (All-cons IsScan (op.Scan k) [] tt (All-nil IsScan));
-  count = f.count;
-  none_late = λ ok. absurd (some ok);
-}
+-- the scan of a batch that waits
+pub scans : (h : History) (past : List Op) (b : ScriptBatch) (n m : MovedSoFar) (k : ℕ) → (n.events ≡ 0 → ⊥) → EndsWaiting n m → IsFoldedTo h past b n → IsFoldedTo h (past ++ op.Scan k ∷ []) b m
+scans h past b n m k some ends f =
+    let longer : length (f.late ++ op.Scan k ∷ []) ≡ length f.late + 1 = length-append f.late (op.Scan k ∷ []) in
+    record {
+      calls = batch_commands h past (op.Scan k ∷ []) f.calls refl;
+      kept = f.kept;
+      away = f.away;
+      here = f.here;
+      late = f.late ++ op.Scan k ∷ [];
+      events_are = f.events_are;
+      commands_are = second_more (op.Scan k) f.commands_are;
+      repeats = f.repeats;
+      away_are = f.away_are;
+      late_are = All-append IsScan f.late (op.Scan k ∷ []) f.late_are (All-cons IsScan (op.Scan k) [] tt (All-nil IsScan));
+      count = ends.0 ∙ f.count;
+      batches = batches_same n.batches m.batches (length f.late) (length (f.late ++ op.Scan k ∷ [])) n.waiting m.waiting ends.1 f.batches longer ends.2;
+      none_late = λ ok. absurd (some (sym ends.0 ∙ ok));
+      none_waits = λ ok. absurd (some (sym ends.0 ∙ ok));
+    }
+  where
+    batches_same : (n m k l v w : ℕ) → m ≡ n → n ≡ capped_count (k + v) → l ≡ k + 1 → v ≡ w + 1 → m ≡ capped_count (l + w)
+    batches_same n m k l v w same count longer less = omega arith
 
 -- ---- the end
 
@@ -302,5 +314,9 @@ none_away : (away : History) → 0 ≡ capped_count (length away) → away ≡ [
 none_away [] zero = refl
 none_away (e ∷ es) zero = absurd (omega arith)
 
-pub is_script : (h : History) (past : List Op) (moved : Moved) (n : ℕ) → moved.events ≡ n → IsFoldedTo h past Idle n → (IsWholeScans h → moved ≡ nothing_moved) → (IsWholeScans h → All IsCallOrScan past) → IsScript h past moved
-is_script h past moved n same f none plain = grind (arith, none_away, first_alone, all_repeated)
+-- each late command is the scan of a batch moved
+all_written : (e b l w : ℕ) → (e ≡ 0 → w ≡ 0) → ((e ≡ 0 → ⊥) → w ≡ 0) → b ≡ capped_count (l + w) → b ≡ capped_count l
+all_written e b l w early done count = grind arith
+
+pub is_script : (h : History) (past : List Op) (moved : Moved) (n : MovedSoFar) → MovesBy moved n → IsFoldedTo h past Idle n → (IsWholeScans h → moved ≡ nothing_moved) → (IsWholeScans h → All IsCallOrScan past) → IsScript h past moved
+is_script h past moved n same f none plain = grind (arith, none_away, first_alone, all_repeated, all_written)

@@ -1,5 +1,5 @@
 -- The script of a node's events.
-use Rattle.std.specs.Prelude.{◌≡◌, ◌++◌, ℕ, nat_eq, All, List, [], ◌∷◌, None, length, map, if◌then◌else◌}
+use Rattle.std.specs.Prelude.{◌≡◌, ◌+◌, ◌++◌, ℕ, nat_eq, All, List, [], ◌∷◌, None, length, map, if◌then◌else◌}
 use Rattle.thp_history.specs.declared.events.Event.{Event}
 use Rattle.thp_history.specs.declared.events.Outcome.{Outcome}
 use Rattle.thp_history.specs.declared.events.Outcome.TheVariants.{Freed}
@@ -29,12 +29,33 @@ nothing_moved = record { batches = 0; calls = 0; events = 0; left = 0 }
 pub record IsScript (h : History) (ops : List Op) (moved : Moved) : Type 0 where
   pub calls : calls_in ops ≡ calls_of h
   pub repeats : moved.events ≡ 0 → Repeats None ops h None
-  pub except : RepeatsExcept h ops moved.events
+  pub except : RepeatsExcept h ops moved
   pub whole : IsWholeScans h → moved ≡ nothing_moved
   pub plain : IsWholeScans h → All IsCallOrScan ops
 
--- the same for the commands so far, except that the last events can have no command yet
-pub record IsFoldedTo (h : History) (ops : List Op) (batch : ScriptBatch) (events : ℕ) : Type 0 where
+-- the events and batches moved so far, and the number of these batches that wait
+pub record MovedSoFar : Type 0 where
+  pub events : ℕ
+  pub batches : ℕ
+  pub waiting : ℕ
+
+abbrev pub moved_so_far : Folding → MovedSoFar
+moved_so_far f = record { events = f.moved.events; batches = f.moved.batches; waiting = length f.waiting.items }
+
+-- one more event is moved, which begins a batch or does not
+abbrev pub MovesEvent : MovedSoFar → MovedSoFar → Type 0
+MovesEvent old new = (begun : ℕ) × (new.events ≡ capped_count (old.events + 1)) × ((n : ℕ) → old.batches ≡ capped_count n → new.batches ≡ capped_count (n + begun)) × (new.waiting ≡ old.waiting + begun)
+
+-- one batch waits no more
+abbrev pub EndsWaiting : MovedSoFar → MovedSoFar → Type 0
+EndsWaiting old new = (new.events ≡ old.events) × (new.batches ≡ old.batches) × (old.waiting ≡ new.waiting + 1)
+
+-- once no batch waits
+abbrev pub MovesBy : Moved → MovedSoFar → Type 0
+MovesBy moved so_far = (moved.events ≡ so_far.events) × (moved.batches ≡ so_far.batches) × ((so_far.events ≡ 0 → ⊥) → so_far.waiting ≡ 0)
+
+-- the same for the commands so far, except that the last events and the batches that wait can have no command yet
+pub record IsFoldedTo (h : History) (ops : List Op) (batch : ScriptBatch) (moved : MovedSoFar) : Type 0 where
   pub calls : calls_in ops ≡ calls_of h
   pub kept : History
   pub away : History
@@ -45,11 +66,13 @@ pub record IsFoldedTo (h : History) (ops : List Op) (batch : ScriptBatch) (event
   pub repeats : RepeatsUpTo kept here batch
   pub away_are : All IsOfBatch away
   pub late_are : All IsScan late
-  pub count : events ≡ capped_count (length away)
-  pub none_late : events ≡ 0 → late ≡ []
+  pub count : moved.events ≡ capped_count (length away)
+  pub batches : moved.batches ≡ capped_count (length late + moved.waiting)
+  pub none_late : moved.events ≡ 0 → late ≡ []
+  pub none_waits : moved.events ≡ 0 → moved.waiting ≡ 0
 
 abbrev pub HasCommands : History → List Op → Folding → Type 0
-HasCommands h ops f = IsFoldedTo h ops f.batch f.moved.events
+HasCommands h ops f = IsFoldedTo h ops f.batch (moved_so_far f)
 
 -- with these commands, the script so far repeats one more event
 abbrev pub AddsEvent : Event → Folding → Folding → List Op → Type 0
@@ -138,6 +161,7 @@ flying_after _ flight ps = ps
 -- no flight begins or waits more
 pub record KeepsFlights (old new : Folding) : Type 0 where
   pub none_waits : old.waiting.items ≡ [] → new.waiting.items ≡ []
+  pub waiting : length new.waiting.items ≡ length old.waiting.items
   pub flight : new.flight ≡ old.flight
   pub flights : new.flights ≡ old.flights
 

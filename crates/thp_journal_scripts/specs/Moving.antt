@@ -31,8 +31,8 @@ abbrev pub both_moved : Moved → Moved → Moved
 both_moved a b = record { batches = capped_count (a.batches + b.batches); calls = capped_count (a.calls + b.calls); events = capped_count (a.events + b.events); left = capped_count (a.left + b.left) }
 
 -- The commands repeat the history at their places, except so many events of batches that are not at their place; the commands
--- besides are scans.
-pub record RepeatsExcept (h : History) (ops : List Op) (events : ℕ) : Type 0 where
+-- besides are scans, one for each batch moved.
+pub record RepeatsExcept (h : History) (ops : List Op) (moved : Moved) : Type 0 where
   pub kept : History
   pub away : History
   pub here : List Op
@@ -42,4 +42,5 @@ pub record RepeatsExcept (h : History) (ops : List Op) (events : ℕ) : Type 0 w
   pub repeats : Repeats None here kept None
   pub away_are : All IsOfBatch away
   pub late_are : All IsScan late
-  pub count : events ≡ capped_count (length away)
+  pub count : moved.events ≡ capped_count (length away)
+  pub batches : moved.batches ≡ capped_count (length late)

@@ -1,5 +1,5 @@
 -- Re-exports the definitions and types of this library: other files import those that they cite from here, in one line.
-pub use Rattle.thp_journal_scripts.specs.Folds.{AddsCommands, AddsEvent, AddsPlain, AddsTo, FoldEnds, GoesOn, HasAdded, IsAtPlace, IsAtScan, IsFolded, IsFoldedTo, IsInScan, IsQuiet, IsScript, KeepsFlights, flying, flying_after, leave, leave_if_freed, nothing_moved, pages_in_scan}
+pub use Rattle.thp_journal_scripts.specs.Folds.{AddsCommands, AddsEvent, AddsPlain, AddsTo, EndsWaiting, FoldEnds, GoesOn, HasAdded, IsAtPlace, IsAtScan, IsFolded, IsFoldedTo, IsInScan, IsQuiet, IsScript, KeepsFlights, MovedSoFar, MovesBy, MovesEvent, flying, flying_after, leave, leave_if_freed, moved_so_far, nothing_moved, pages_in_scan}
 pub use Rattle.thp_journal_scripts.specs.JournalScripts.{AddsLine, AreScripted, IsLegalPart, IsScriptOf, IsScripting, ScriptSoFar, ended_nodes, repeated_of, shape_and_events}
 pub use Rattle.thp_journal_scripts.specs.Moving.{Interleaves, IsOfBatch, IsScan, both_moved, capped_count, first, neither, second}
 pub use Rattle.thp_journal_scripts.specs.NodeScripts.{BeginsNode, EndedNode, EndsAs, EndsNode, GoesOnAs, GoesOnWith, IsBegun, IsEnded, IsWriting, NodeScript, StaysWritten, head_text, moved_by, node_after, node_script_text, node_scripts, nodes_text, out_of_turn_by, out_of_turn_in, script_shape, taken_of, untaken}

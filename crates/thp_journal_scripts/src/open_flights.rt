@@ -1,5 +1,5 @@
 //! The pages in flight, each with the number of its flight, and the flights that wait.
-ghost use Rattle.std.specs.Prelude.{◌≡◌, [], nat_eq};
+ghost use Rattle.std.specs.Prelude.{◌≡◌, length, nat_eq};
 ghost use Rattle.std.specs.List.{list_any};
 ghost use Rattle.thp_journal_scripts.specs.Prelude.{leave, FlyingPage};
 
@@ -44,7 +44,9 @@ pub(crate) struct WaitingFlight {
 }
 
 /// Adds a page to the last of the flights that wait, if that is this caller's and has room. Returns whether it did.
-pub(crate) fn extend_last(waiting: &mut VecDeque<WaitingFlight>, by: u32) -> bool {
+pub(crate) fn extend_last(waiting: &mut VecDeque<WaitingFlight>, by: u32) -> bool
+    ensures { length waiting.new.items ≡ length waiting.old.items }
+{
     let Some(last) = waiting.back_mut() else {
         return false;
     };
@@ -57,7 +59,7 @@ pub(crate) fn extend_last(waiting: &mut VecDeque<WaitingFlight>, by: u32) -> boo
 
 /// Removes a page from a flight, if that waits: the page was freed.
 pub(crate) fn lose_page(waiting: &mut VecDeque<WaitingFlight>, flight: u64)
-    ensures { waiting.old.items ≡ [] → waiting.new.items ≡ [] }
+    ensures { length waiting.new.items ≡ length waiting.old.items }
 {
     let Some(first) = waiting.front() else {
         return;
