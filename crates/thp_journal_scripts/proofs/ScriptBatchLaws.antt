@@ -1,11 +1,13 @@
 -- The script so far, event by event.
-use Rattle.std.proofs.Common.{◌≡◌, ◌∙◌, ◌+◌, ℕ, Option, List, [], ◌∷◌, ◌++◌, cond, length, None, Some, append_assoc, ap, arith, length-append, refl, subst, sym, All, replicate, append-nil}
+use Rattle.std.proofs.Common.{◌≡◌, ◌∙◌, ◌+◌, ◌≤◌, ℕ, Option, List, [], ◌∷◌, ◌++◌, add-one, cond, length, map, None, Some, append_assoc, ap, arith, length-append, refl, subst, sym, All, replicate, append-nil}
+use Rattle.std.proofs.lemmas.List.{map-append}
 use Rattle.std.proofs.lemmas.List.Elements.{All-append, All-cons, All-nil}
 use Rattle.thp_history.specs.declared.events.Event.{Event}
 use Rattle.thp_history.specs.Prelude.{History}
 use Rattle.thp_script.specs.declared.script.Op.{Op}
 use Rattle.thp_script.specs.declared.script.Op.TheVariants as op
-use Rattle.thp_journal_scripts.specs.Prelude.{EventKind, Call, Take, Try, Put, ScriptBatch, Idle, Taking, Trying, Scanned, Open, Closing, open_by, pending_ops, settled, Completes, IsPending, PutsMore, RepeatsUpTo, TakesMore, TriesMore, nothing_moved, EndsWaiting, IsFoldedTo, IsScript, Moved, MovedSoFar, MovesBy, MovesEvent, IsCallOrScan, IsWholeScans, capped_count, Interleaves, IsOfBatch, IsScan, neither, first, second, call_in, calls_in, calls_of, kind_of, AreBy, IsBy, IsScanBy, Repeats, RepeatsBy}
+use Rattle.thp_journal_scripts.specs.Prelude.{EventKind, Call, Take, Try, Put, ScriptBatch, Idle, Taking, Trying, Scanned, Open, Closing, open_by, pending_ops, settled, Completes, IsPending, PutsMore, RepeatsUpTo, TakesMore, TriesMore, nothing_moved, EndsWaiting, IsFoldedTo, IsScript, Moved, MovedSoFar, MovesBy, MovesEvent, AreLateScans, AreWaiting, IsMovedBatch, LosesPage, MovedBatch, TakesLate, WaitingFlight, begins_late, extends_late, all_freed, all_takes, freed_in, late_scan, takes_in, IsCallOrScan, IsWholeScans, capped_count, Interleaves, IsOfBatch, IsScan, neither, first, second, call_in, calls_in, calls_of, kind_of, AreBy, IsBy, IsScanBy, Repeats, RepeatsBy}
+use Rattle.thp_journal_scripts.proofs.LateScanLaws.{begins_with, counts_taken, extends_with, freed_both, freed_cons, as_many_wait, is_moved_batch, loses, one_take, takes_both, takes_more}
 use Rattle.thp_journal_scripts.proofs.RepeatLaws.{calls_in_both, calls_of_more, is_plain, no_calls_in_tries, repeats_more, repeats_tries, IsPlain}
 
 -- ---- events of one kind
@@ -251,59 +253,148 @@ puts_nothing h past n c f =
 
 -- ---- out of order
 
+module _ (h : History) (past : List Op) (b : ScriptBatch) (n m : MovedSoFar) (e : Event) (none : call_in (kind_of e.what) ≡ []) (f : IsFoldedTo h past b n) where
+  -- a moved event, whose batches then are these
+  moves : (standing : List MovedBatch) → m.events ≡ capped_count (n.events + 1) → m.freed ≡ n.freed → m.batches ≡ capped_count (length f.late + length m.waiting) → AreWaiting standing m.waiting → takes_in (f.away ++ e ∷ []) ≡ all_takes f.ended ++ all_takes standing → all_freed standing ≡ all_freed f.standing → IsFoldedTo (h ++ e ∷ []) past b m
+  moves standing more freed batches waits takes freed_are =
+      let longer : length (f.away ++ e ∷ []) ≡ length f.away + 1 = length-append f.away (e ∷ []) in
+      record {
+        calls = batch_event h past e f.calls none;
+        kept = f.kept;
+        away = f.away ++ e ∷ [];
+        here = f.here;
+        late = f.late;
+        ended = f.ended;
+        standing = standing;
+        events_are = second_more e f.events_are;
+        commands_are = f.commands_are;
+        repeats = f.repeats;
+        away_are = All-append IsOfBatch f.away (e ∷ []) f.away_are (All-cons IsOfBatch e [] none (All-nil IsOfBatch));
+        late_are = f.late_are;
+        count = count_more n.events m.events (length f.away) (length (f.away ++ e ∷ [])) more f.count longer;
+        batches = batches;
+        none_late = λ zero. absurd (never_zero n.events m.events more zero);
+        none_waits = λ zero. absurd (never_zero n.events m.events more zero);
+        each = f.each;
+        waits = waits;
+        takes_are = takes;
+        scans_are = f.scans_are;
+        freed_are = let bound = f.freed_are in omega (arith, bound, freed, freed_are);
+      }
+    where
+      count_more : (n m k l : ℕ) → m ≡ capped_count (n + 1) → n ≡ capped_count k → l ≡ k + 1 → m ≡ capped_count l
+      count_more n m k l more count longer = omega arith
+
+      never_zero : (n m : ℕ) → m ≡ capped_count (n + 1) → m ≡ 0 → ⊥
+      never_zero n m more zero = omega arith
+
+  takes_after : (batches : List MovedBatch) → kind_of e.what ≡ Take → all_takes batches ≡ all_takes f.standing ++ e ∷ [] → takes_in (f.away ++ e ∷ []) ≡ all_takes f.ended ++ all_takes batches
+  takes_after batches is more =
+      takes_more f.away e ∙ ap (λ es. takes_in f.away ++ es) (one_take e is) ∙ ap (λ es. es ++ e ∷ []) f.takes_are ∙ append_assoc (all_takes f.ended) (all_takes f.standing) (e ∷ []) ∙ ap (λ es. all_takes f.ended ++ es) (sym more)
+
+  -- a take that is not at its place
+  pub take_waits : (c : ℕ) → IsBy c Take e → m.events ≡ capped_count (n.events + 1) → m.freed ≡ n.freed → TakesLate c n m → IsFoldedTo (h ++ e ∷ []) past b m
+  take_waits c by more freed (begins_late flight now batches) =
+      let late = begins_with f.standing n.waiting c flight e by f.waits in
+      let longer : length m.waiting ≡ length n.waiting + 1 = ap (λ fs. length fs) now ∙ length-append n.waiting (record { caller = c; taken = 1; flight = flight } ∷ []) in
+      moves late.batches more freed (one_more n.batches m.batches (length f.late) (length n.waiting) (length m.waiting) f.batches batches longer) (subst (λ fs. AreWaiting late.batches fs) (sym now) late.waits) (takes_after late.batches by.1 late.takes_are) late.freed_are
+    where
+      one_more : (n m l v w : ℕ) → n ≡ capped_count (l + v) → m ≡ capped_count (n + 1) → w ≡ v + 1 → m ≡ capped_count (l + w)
+      one_more n m l v w was now longer = omega arith
+  take_waits c by more freed (extends_late x batches) =
+      let front = x.front in
+      let last = x.last in
+      let was = x.was in
+      let now = x.now in
+      let late = extends_with f.standing front last c e x.is_own by (subst (λ fs. AreWaiting f.standing fs) was f.waits) in
+      let as_long : length m.waiting ≡ length n.waiting = ap (λ fs. length fs) now ∙ length-append front (record last { taken = last.taken + 1 } ∷ []) ∙ sym (length-append front (last ∷ [])) ∙ ap (λ fs. length fs) (sym was) in
+      moves late.batches more freed (batches ∙ f.batches ∙ ap (λ w. capped_count (length f.late + w)) (sym as_long)) (subst (λ fs. AreWaiting late.batches fs) (sym now) late.waits) (takes_after late.batches by.1 late.takes_are) late.freed_are
+
+  -- another event
+  pub other_waits : takes_in (e ∷ []) ≡ [] → m ≡ record n { events = capped_count (n.events + 1) } → IsFoldedTo (h ++ e ∷ []) past b m
+  other_waits other same =
+      moves f.standing (ap (λ (x : MovedSoFar). x.events) same) (ap (λ (x : MovedSoFar). x.freed) same) (ap (λ (x : MovedSoFar). x.batches) same ∙ f.batches ∙ ap (λ (x : MovedSoFar). capped_count (length f.late + length x.waiting)) (sym same))
+      (subst (λ (x : MovedSoFar). AreWaiting f.standing x.waiting) (sym same) f.waits)
+      (takes_more f.away e ∙ ap (λ es. takes_in f.away ++ es) other ∙ append-nil (takes_in f.away) ∙ f.takes_are) refl
+
 -- an event that is not at its place
-pub waits : (h : History) (past : List Op) (b : ScriptBatch) (n m : MovedSoFar) (e : Event) → call_in (kind_of e.what) ≡ [] → MovesEvent n m → IsFoldedTo h past b n → IsFoldedTo (h ++ e ∷ []) past b m
-waits h past b n m e none more f =
-    let longer : length (f.away ++ e ∷ []) ≡ length f.away + 1 = length-append f.away (e ∷ []) in
-    record {
-      calls = batch_event h past e f.calls none;
-      kept = f.kept;
-      away = f.away ++ e ∷ [];
-      here = f.here;
-      late = f.late;
-      events_are = second_more e f.events_are;
-      commands_are = f.commands_are;
-      repeats = f.repeats;
-      away_are = All-append IsOfBatch f.away (e ∷ []) f.away_are (All-cons IsOfBatch e [] none (All-nil IsOfBatch));
-      late_are = f.late_are;
-      count = count_more n.events m.events (length f.away) (length (f.away ++ e ∷ [])) more.1 f.count longer;
-      batches = batches_more m.batches (length f.late) n.waiting m.waiting more.0 (more.2 (length f.late + n.waiting) f.batches) more.3;
-      none_late = λ zero. absurd (never_zero n.events m.events more.1 zero);
-      none_waits = λ zero. absurd (never_zero n.events m.events more.1 zero);
-    }
+pub waits : (h : History) (past : List Op) (b : ScriptBatch) (n m : MovedSoFar) (e : Event) (c : ℕ) (kind : EventKind) → call_in kind ≡ [] → IsBy c kind e → MovesEvent c kind n m → IsFoldedTo h past b n → IsFoldedTo (h ++ e ∷ []) past b m
+waits h past b n m e c (Call o) none is more f = let never : o ∷ [] ≡ [] = none in absurd (cc)
+waits h past b n m e c Take none is more f = take_waits h past b n m e (ap call_in is.1) f c is more.0 more.1 more.2
+waits h past b n m e c Try none is more f = other_waits h past b n m e (ap call_in is.1) f (rw is.1 refl) more
+waits h past b n m e c Put none is more f = other_waits h past b n m e (ap call_in is.1) f (rw is.1 refl) more
+
+-- the scan of the first batch that waits
+pub scans : (h : History) (past : List Op) (b : ScriptBatch) (n m : MovedSoFar) (k : ℕ) → (n.events ≡ 0 → ⊥) → EndsWaiting k n m → IsFoldedTo h past b n → IsFoldedTo h (past ++ op.Scan k ∷ []) b m
+scans h past b n m k some ends f = scanned f.standing (subst (λ (x : MovedSoFar). AreWaiting f.standing x.waiting) ends.1 f.waits) f.takes_are f.freed_are
   where
-    count_more : (n m k l : ℕ) → m ≡ capped_count (n + 1) → n ≡ capped_count k → l ≡ k + 1 → m ≡ capped_count l
-    count_more n m k l more count longer = omega arith
+    was : n ≡ record m { waiting = ends.0 ∷ m.waiting }
+    was = ends.1
 
-    batches_more : (m l v w k : ℕ) → m ≡ capped_count ((l + v) + k) → w ≡ v + k → m ≡ capped_count (l + w)
-    batches_more m l v w k more longer = omega arith
+    one_longer : length (f.late ++ op.Scan k ∷ []) ≡ length f.late + 1
+    one_longer = length-append f.late (op.Scan k ∷ [])
 
-    never_zero : (n m : ℕ) → m ≡ capped_count (n + 1) → m ≡ 0 → ⊥
-    never_zero n m more zero = omega arith
+    batches_same : (m k l v w : ℕ) → m ≡ capped_count (k + v) → v ≡ w + 1 → l ≡ k + 1 → m ≡ capped_count (l + w)
+    batches_same m k l v w count less longer = omega arith
 
--- the scan of a batch that waits
-pub scans : (h : History) (past : List Op) (b : ScriptBatch) (n m : MovedSoFar) (k : ℕ) → (n.events ≡ 0 → ⊥) → EndsWaiting n m → IsFoldedTo h past b n → IsFoldedTo h (past ++ op.Scan k ∷ []) b m
-scans h past b n m k some ends f =
-    let longer : length (f.late ++ op.Scan k ∷ []) ≡ length f.late + 1 = length-append f.late (op.Scan k ∷ []) in
-    record {
+    scanned : (standing : List MovedBatch) → AreWaiting standing (ends.0 ∷ m.waiting) → takes_in f.away ≡ all_takes f.ended ++ all_takes standing → all_freed f.ended + all_freed standing ≤ n.freed → IsFoldedTo h (past ++ op.Scan k ∷ []) b m
+    scanned [] never takes freed = absurd never
+    scanned (x ∷ rest) are takes freed = record {
       calls = batch_commands h past (op.Scan k ∷ []) f.calls refl;
       kept = f.kept;
       away = f.away;
       here = f.here;
       late = f.late ++ op.Scan k ∷ [];
+      ended = f.ended ++ x ∷ [];
+      standing = rest;
       events_are = f.events_are;
       commands_are = second_more (op.Scan k) f.commands_are;
       repeats = f.repeats;
       away_are = f.away_are;
       late_are = All-append IsScan f.late (op.Scan k ∷ []) f.late_are (All-cons IsScan (op.Scan k) [] tt (All-nil IsScan));
-      count = ends.0 ∙ f.count;
-      batches = batches_same n.batches m.batches (length f.late) (length (f.late ++ op.Scan k ∷ [])) n.waiting m.waiting ends.1 f.batches longer ends.2;
-      none_late = λ ok. absurd (some (sym ends.0 ∙ ok));
-      none_waits = λ ok. absurd (some (sym ends.0 ∙ ok));
+      count = ap (λ (x : MovedSoFar). x.events) (sym was) ∙ f.count;
+      batches = batches_same m.batches (length f.late) (length (f.late ++ op.Scan k ∷ [])) (length (ends.0 ∷ m.waiting)) (length m.waiting) (subst (λ (y : MovedSoFar). y.batches ≡ capped_count (length f.late + length y.waiting)) was f.batches) (sym (add-one (length m.waiting))) one_longer;
+      none_late = λ ok. absurd (some (ap (λ (y : MovedSoFar). y.events) was ∙ ok));
+      none_waits = λ ok. absurd (some (ap (λ (y : MovedSoFar). y.events) was ∙ ok));
+      each = All-append IsMovedBatch f.ended (x ∷ []) f.each (All-cons IsMovedBatch x [] (is_moved_batch x ends.0 are.0) (All-nil IsMovedBatch));
+      waits = are.1;
+      takes_are = takes ∙ sym (append_assoc (all_takes f.ended) x.takes (all_takes rest)) ∙ ap (λ es. (all_takes f.ended ++ es) ++ all_takes rest) (sym (append-nil x.takes)) ∙ ap (λ es. es ++ all_takes rest) (sym (takes_both f.ended (x ∷ [])));
+      scans_are = ap (λ os. os ++ op.Scan k ∷ []) f.scans_are ∙ ap (λ j. map late_scan f.ended ++ op.Scan j ∷ []) (ends.2 ∙ sym (counts_taken x ends.0 are.0)) ∙ sym (map-append late_scan f.ended (x ∷ []));
+      freed_are = let both = freed_both f.ended (x ∷ []) in let one = freed_cons x [] in let more = freed_cons x rest in let same = ap (λ (y : MovedSoFar). y.freed) was in omega (arith, both, one, more, same, freed);
+    }
+
+-- a call can free a page of a batch that waits
+pub frees : (h : History) (past : List Op) (b : ScriptBatch) (n m : MovedSoFar) (k : ℕ) → LosesPage k n.waiting m.waiting → m.events ≡ n.events → m.batches ≡ n.batches → m.freed ≡ n.freed + k → IsFoldedTo h past b n → IsFoldedTo h past b m
+frees h past b n m k lost events batches freed f =
+    let as_long = as_many_wait k n.waiting m.waiting lost in
+    let late = loses k f.standing n.waiting m.waiting lost f.waits in
+    record {
+      calls = f.calls;
+      kept = f.kept;
+      away = f.away;
+      here = f.here;
+      late = f.late;
+      ended = f.ended;
+      standing = late.batches;
+      events_are = f.events_are;
+      commands_are = f.commands_are;
+      repeats = f.repeats;
+      away_are = f.away_are;
+      late_are = f.late_are;
+      count = events ∙ f.count;
+      batches = batches ∙ f.batches ∙ ap (λ w. capped_count (length f.late + w)) (sym as_long);
+      none_late = λ zero. f.none_late (sym events ∙ zero);
+      none_waits = λ zero. no_more m.waiting n.waiting as_long (f.none_waits (sym events ∙ zero));
+      each = f.each;
+      waits = late.waits;
+      takes_are = f.takes_are ∙ ap (λ es. all_takes f.ended ++ es) (sym late.takes_are);
+      scans_are = f.scans_are;
+      freed_are = let bound = f.freed_are in let more = late.freed_are in omega (arith, bound, more, freed);
     }
   where
-    batches_same : (n m k l v w : ℕ) → m ≡ n → n ≡ capped_count (k + v) → l ≡ k + 1 → v ≡ w + 1 → m ≡ capped_count (l + w)
-    batches_same n m k l v w same count longer less = omega arith
+    no_more : (new old : List WaitingFlight) → length new ≡ length old → old ≡ [] → new ≡ []
+    no_more [] old same none = refl
+    no_more (x ∷ new) old same none = let long : length (x ∷ new) ≡ 0 = same ∙ ap (λ fs. length fs) none in let more : length new + 1 ≡ length (x ∷ new) = add-one (length new) in absurd (omega (arith, long, more))
 
 -- ---- the end
 
@@ -315,8 +406,39 @@ none_away [] zero = refl
 none_away (e ∷ es) zero = absurd (omega arith)
 
 -- each late command is the scan of a batch moved
-all_written : (e b l w : ℕ) → (e ≡ 0 → w ≡ 0) → ((e ≡ 0 → ⊥) → w ≡ 0) → b ≡ capped_count (l + w) → b ≡ capped_count l
-all_written e b l w early done count = grind arith
+all_written : (n : MovedSoFar) → (n.events ≡ 0 → n.waiting ≡ []) → ((n.events ≡ 0 → ⊥) → n.waiting ≡ []) → n.waiting ≡ []
+all_written n early done = grind arith
 
-pub is_script : (h : History) (past : List Op) (moved : Moved) (n : MovedSoFar) → MovesBy moved n → IsFoldedTo h past Idle n → (IsWholeScans h → moved ≡ nothing_moved) → (IsWholeScans h → All IsCallOrScan past) → IsScript h past moved
-is_script h past moved n same f none plain = grind (arith, none_away, first_alone, all_repeated, all_written)
+and_none : (n : ℕ) → n + 0 ≡ n
+and_none n = omega arith
+
+late_scans : (h : History) (past : List Op) (n : MovedSoFar) (f : IsFoldedTo h past Idle n) → n.waiting ≡ [] → n.freed ≡ freed_in h → AreLateScans h f.away f.late
+late_scans h past n f none freed = ended f.standing (subst (λ fs. AreWaiting f.standing fs) none f.waits) f.takes_are f.freed_are
+  where
+    ended : (standing : List MovedBatch) → AreWaiting standing [] → takes_in f.away ≡ all_takes f.ended ++ all_takes standing → all_freed f.ended + all_freed standing ≤ n.freed → AreLateScans h f.away f.late
+    ended (b ∷ bs) never takes bound = absurd never
+    ended [] are takes bound = record { batches = f.ended; each = f.each; takes_are = takes ∙ append-nil (all_takes f.ended); scans_are = f.scans_are; freed_are = omega (arith, bound, freed) }
+
+pub is_script : (h : History) (past : List Op) (moved : Moved) (n : MovedSoFar) → MovesBy moved n → n.freed ≡ freed_in h → IsFoldedTo h past Idle n → (IsWholeScans h → moved ≡ nothing_moved) → (IsWholeScans h → All IsCallOrScan past) → IsScript h past moved
+is_script h past moved n same freed f none plain =
+    let written : n.waiting ≡ [] = all_written n f.none_waits same.2 in
+    record {
+      calls = f.calls;
+      repeats = grind (arith, none_away, first_alone, all_repeated);
+      except = record {
+        kept = f.kept;
+        away = f.away;
+        here = f.here;
+        late = f.late;
+        events_are = f.events_are;
+        commands_are = f.commands_are;
+        repeats = all_repeated f.kept f.here f.repeats;
+        away_are = f.away_are;
+        late_are = f.late_are;
+        count = same.0 ∙ f.count;
+        batches = same.1 ∙ f.batches ∙ ap (λ fs. capped_count (length f.late + length fs)) written ∙ ap capped_count (and_none (length f.late));
+        scans = late_scans h past n f written freed;
+      };
+      whole = none;
+      plain = plain;
+    }

@@ -1,5 +1,5 @@
 -- The script of a node's events.
-use Rattle.std.specs.Prelude.{◌≡◌, ◌+◌, ◌++◌, ℕ, nat_eq, All, List, [], ◌∷◌, None, length, map, if◌then◌else◌}
+use Rattle.std.specs.Prelude.{◌≡◌, ◌≤◌, ◌+◌, ◌-◌, ◌++◌, ℕ, nat_eq, All, List, [], ◌∷◌, None, length, map, if◌then◌else◌}
 use Rattle.thp_history.specs.declared.events.Event.{Event}
 use Rattle.thp_history.specs.declared.events.Outcome.{Outcome}
 use Rattle.thp_history.specs.declared.events.Outcome.TheVariants.{Freed}
@@ -8,13 +8,16 @@ use Rattle.thp_history.specs.declared.events.What.TheVariants.{UnmapWhole, Unmap
 use Rattle.thp_history.specs.Prelude.{History}
 use Rattle.thp_script.specs.declared.script.Op.{Op}
 use Rattle.thp_journal_scripts.specs.declared.folding.Folding.{Folding}
+use Rattle.thp_journal_scripts.specs.declared.folding.EventKind.{EventKind}
+use Rattle.thp_journal_scripts.specs.declared.folding.EventKind.TheVariants.{Take}
 use Rattle.thp_journal_scripts.specs.declared.folding.Moved.{Moved}
 use Rattle.thp_journal_scripts.specs.declared.open_flights.FlyingPage.{FlyingPage}
+use Rattle.thp_journal_scripts.specs.declared.open_flights.WaitingFlight.{WaitingFlight}
 use Rattle.thp_journal_scripts.specs.declared.script_batch.ScriptBatch.{ScriptBatch}
 use Rattle.thp_journal_scripts.specs.declared.script_batch.ScriptBatch.TheVariants as batch
 use Rattle.thp_journal_scripts.specs.ScriptBatches.{RepeatsUpTo, TakesSome}
-use Rattle.thp_journal_scripts.specs.Moving.{capped_count, Interleaves, IsOfBatch, IsScan, RepeatsExcept}
-use Rattle.thp_journal_scripts.specs.Repeating.{calls_in, calls_of, Repeats}
+use Rattle.thp_journal_scripts.specs.Moving.{all_freed, all_takes, capped_count, freed_in, late_scan, pages_freed, takes_in, Interleaves, IsMovedBatch, IsOfBatch, IsScan, MovedBatch, RepeatsExcept}
+use Rattle.thp_journal_scripts.specs.Repeating.{calls_in, calls_of, IsBy, Repeats}
 use Rattle.thp_journal_scripts.specs.WholeScans.{scan_place, IsCallOrScan, IsWholeScans, ScanPlace, Between, InTakes, InTries, InPuts, Elsewhere}
 
 -- a list got more elements, with this property
@@ -33,26 +36,63 @@ pub record IsScript (h : History) (ops : List Op) (moved : Moved) : Type 0 where
   pub whole : IsWholeScans h → moved ≡ nothing_moved
   pub plain : IsWholeScans h → All IsCallOrScan ops
 
--- the events and batches moved so far, and the number of these batches that wait
+-- the events and batches moved so far, and those of the batches that wait; and how many pages were freed
 pub record MovedSoFar : Type 0 where
   pub events : ℕ
   pub batches : ℕ
-  pub waiting : ℕ
+  pub waiting : List WaitingFlight
+  pub freed : ℕ
 
-abbrev pub moved_so_far : Folding → MovedSoFar
-moved_so_far f = record { events = f.moved.events; batches = f.moved.batches; waiting = length f.waiting.items }
+abbrev pub moved_so_far : ℕ → Folding → MovedSoFar
+moved_so_far freed f = record { events = f.moved.events; batches = f.moved.batches; waiting = f.waiting.items; freed = freed }
 
--- one more event is moved, which begins a batch or does not
-abbrev pub MovesEvent : MovedSoFar → MovedSoFar → Type 0
-MovesEvent old new = (begun : ℕ) × (new.events ≡ capped_count (old.events + 1)) × ((n : ℕ) → old.batches ≡ capped_count n → new.batches ≡ capped_count (n + begun)) × (new.waiting ≡ old.waiting + begun)
+-- a batch waits: a flight of so many pages of this caller, besides those that were freed
+pub record Waits (batch : MovedBatch) (flight : WaitingFlight) : Type 0 where
+  pub takes_are : All (IsBy flight.caller Take) batch.takes
+  pub count : flight.taken + batch.freed ≡ length batch.takes
 
--- one batch waits no more
-abbrev pub EndsWaiting : MovedSoFar → MovedSoFar → Type 0
-EndsWaiting old new = (new.events ≡ old.events) × (new.batches ≡ old.batches) × (old.waiting ≡ new.waiting + 1)
+abbrev pub AreWaiting : List MovedBatch → List WaitingFlight → Type 0
+AreWaiting [] [] = Unit {0}
+AreWaiting (b ∷ bs) (f ∷ fs) = Waits b f × AreWaiting bs fs
+AreWaiting _ _ = ⊥
+
+-- the last flight that waits is this caller's, and got one more page
+pub record ExtendsLast (c : ℕ) (old new : List WaitingFlight) : Type 0 where
+  pub front : List WaitingFlight
+  pub last : WaitingFlight
+  pub is_own : last.caller ≡ c
+  pub was : old ≡ front ++ last ∷ []
+  pub now : new ≡ front ++ record last { taken = last.taken + 1 } ∷ []
+
+-- one more page is taken into a batch that waits, the last or a new one
+pub data TakesLate (c : ℕ) (old new : MovedSoFar) : Type 0 where
+  begins_late : (flight : ℕ) → new.waiting ≡ old.waiting ++ record { caller = c; taken = 1; flight = flight } ∷ [] → new.batches ≡ capped_count (old.batches + 1) → TakesLate c old new
+  extends_late : ExtendsLast c old.waiting new.waiting → new.batches ≡ old.batches → TakesLate c old new
+
+-- one more event of this kind is moved
+abbrev pub MovesEvent : ℕ → EventKind → MovedSoFar → MovedSoFar → Type 0
+MovesEvent c Take old new = (new.events ≡ capped_count (old.events + 1)) × (new.freed ≡ old.freed) × TakesLate c old new
+MovesEvent c kind old new = new ≡ record old { events = capped_count (old.events + 1) }
+
+-- the first flight that waits has so many pages
+pub record IsNextScan (count : ℕ) (waiting : List WaitingFlight) : Type 0 where
+  pub flight : WaitingFlight
+  pub others : List WaitingFlight
+  pub waiting_are : waiting ≡ flight ∷ others
+  pub count_is : count ≡ flight.taken
+
+-- the first batch waits no more
+abbrev pub EndsWaiting : ℕ → MovedSoFar → MovedSoFar → Type 0
+EndsWaiting count old new = (first : WaitingFlight) × (old ≡ record new { waiting = first ∷ new.waiting }) × (count ≡ first.taken)
+
+-- so many pages were freed, at most one, and if one, then maybe of a batch that waits
+pub data LosesPage (freed : ℕ) (old new : List WaitingFlight) : Type 0 where
+  loses_none : new ≡ old → LosesPage freed old new
+  loses_one : (front back : List WaitingFlight) (flight : WaitingFlight) → freed ≡ 1 → old ≡ front ++ flight ∷ back → new ≡ front ++ record flight { taken = flight.taken - 1 } ∷ back → LosesPage freed old new
 
 -- once no batch waits
 abbrev pub MovesBy : Moved → MovedSoFar → Type 0
-MovesBy moved so_far = (moved.events ≡ so_far.events) × (moved.batches ≡ so_far.batches) × ((so_far.events ≡ 0 → ⊥) → so_far.waiting ≡ 0)
+MovesBy moved so_far = (moved.events ≡ so_far.events) × (moved.batches ≡ so_far.batches) × ((so_far.events ≡ 0 → ⊥) → so_far.waiting ≡ [])
 
 -- the same for the commands so far, except that the last events and the batches that wait can have no command yet
 pub record IsFoldedTo (h : History) (ops : List Op) (batch : ScriptBatch) (moved : MovedSoFar) : Type 0 where
@@ -61,26 +101,37 @@ pub record IsFoldedTo (h : History) (ops : List Op) (batch : ScriptBatch) (moved
   pub away : History
   pub here : List Op
   pub late : List Op
+  pub ended : List MovedBatch
+  pub standing : List MovedBatch
   pub events_are : Interleaves kept away h
   pub commands_are : Interleaves here late ops
   pub repeats : RepeatsUpTo kept here batch
   pub away_are : All IsOfBatch away
   pub late_are : All IsScan late
   pub count : moved.events ≡ capped_count (length away)
-  pub batches : moved.batches ≡ capped_count (length late + moved.waiting)
+  pub batches : moved.batches ≡ capped_count (length late + length moved.waiting)
   pub none_late : moved.events ≡ 0 → late ≡ []
-  pub none_waits : moved.events ≡ 0 → moved.waiting ≡ 0
+  pub none_waits : moved.events ≡ 0 → moved.waiting ≡ []
+  pub each : All IsMovedBatch ended
+  pub waits : AreWaiting standing moved.waiting
+  pub takes_are : takes_in away ≡ all_takes ended ++ all_takes standing
+  pub scans_are : late ≡ map late_scan ended
+  pub freed_are : all_freed ended + all_freed standing ≤ moved.freed
 
-abbrev pub HasCommands : History → List Op → Folding → Type 0
-HasCommands h ops f = IsFoldedTo h ops f.batch (moved_so_far f)
+abbrev pub HasCommands : History → List Op → ℕ → Folding → Type 0
+HasCommands h ops freed f = IsFoldedTo h ops f.batch (moved_so_far freed f)
 
 -- with these commands, the script so far repeats one more event
 abbrev pub AddsEvent : Event → Folding → Folding → List Op → Type 0
-AddsEvent e old new more = (h : History) (past : List Op) → HasCommands h past old → HasCommands (h ++ e ∷ []) (past ++ more) new
+AddsEvent e old new more = (h : History) (past : List Op) (freed : ℕ) → HasCommands h past freed old → HasCommands (h ++ e ∷ []) (past ++ more) freed new
+
+-- the same, with the pages that the event frees
+abbrev pub FollowsEvent : Event → Folding → Folding → List Op → Type 0
+FollowsEvent e old new more = (h : History) (past : List Op) (freed : ℕ) → HasCommands h past freed old → HasCommands (h ++ e ∷ []) (past ++ more) (freed + pages_freed e.what) new
 
 -- with these commands, the script so far repeats the same events
 abbrev pub AddsCommands : Folding → Folding → List Op → Type 0
-AddsCommands old new more = (h : History) (past : List Op) → HasCommands h past old → HasCommands h (past ++ more) new
+AddsCommands old new more = (h : History) (past : List Op) (freed : ℕ) → HasCommands h past freed old → HasCommands h (past ++ more) freed new
 
 -- ---- whole scans
 
@@ -161,7 +212,6 @@ flying_after _ flight ps = ps
 -- no flight begins or waits more
 pub record KeepsFlights (old new : Folding) : Type 0 where
   pub none_waits : old.waiting.items ≡ [] → new.waiting.items ≡ []
-  pub waiting : length new.waiting.items ≡ length old.waiting.items
   pub flight : new.flight ≡ old.flight
   pub flights : new.flights ≡ old.flights
 
@@ -169,7 +219,7 @@ pub record KeepsFlights (old new : Folding) : Type 0 where
 
 -- the script so far
 pub record IsFolded (h : History) (ops : List Op) (f : Folding) : Type 0 where
-  pub commands : HasCommands h ops f
+  pub commands : HasCommands h ops (freed_in h) f
   pub scans : IsAtPlace (scan_place h) f
   pub plain : ArePlain (scan_place h) ops
 

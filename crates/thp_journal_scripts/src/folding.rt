@@ -1,10 +1,10 @@
 //! The commands that repeat the events of a node.
-ghost use Rattle.std.specs.Prelude.{◌≡◌, ◌≤◌, ◌++◌, ◌+◌, [], ◌∷◌, ℕ, IfOk, MatchOption, OnOk, length, true};
+ghost use Rattle.std.specs.Prelude.{◌≡◌, ◌++◌, ◌+◌, [], ◌∷◌, ℕ, IfOk, MatchOption, OnOk, false, true};
 ghost use Rattle.thp_history.specs.Prelude.{event_with};
 ghost use Rattle.thp_history.specs.declared.events.Event.{Event};
 ghost use Rattle.thp_history.specs.declared.events.What.{What};
 ghost use Rattle.thp_history.specs.declared.events.What.TheVariants.{Taken};
-ghost use Rattle.thp_journal_scripts.specs.Prelude.{both_moved, capped_count, flying_after, kind_of, leave_if_freed, moved_so_far, once_ended, pending_ops, place_of_call, place_of_put, place_of_take, place_of_try, scan_place_of, settled, AddsCommands, AddsEvent, AddsPlain, AddsTo, Call, FoldEnds, GoesOn, HasAdded, Idle, IsAtPlace, IsBy, IsFolded, IsSettled, KeepsFlights, MovesEvent, Open, Put, ScanPlace, Take, Try};
+ghost use Rattle.thp_journal_scripts.specs.Prelude.{both_moved, capped_count, flying_after, kind_of, leave_if_freed, moved_so_far, once_ended, one_if_freed, pages_freed, pending_ops, place_of_call, place_of_put, place_of_take, place_of_try, scan_place_of, settled, AddsCommands, AddsEvent, AddsPlain, AddsTo, Call, ExtendsLast, FoldEnds, GoesOn, HasAdded, Idle, IsAtPlace, IsBy, IsFolded, IsNextScan, IsSettled, KeepsFlights, LosesPage, MovesEvent, Open, Put, ScanPlace, Take, TakesLate, Try};
 
 use crate::open_flights::{FlyingPage, WaitingFlight, extend_last, has_flight, leave, lose_page};
 use crate::script_batch::ScriptBatch;
@@ -105,7 +105,7 @@ impl Folding {
     /// Counts a call if a flight waits.
     fn count_call(&mut self)
         ensures batch { self.new.batch ≡ self.old.batch }
-        ensures moved { moved_so_far self.new ≡ moved_so_far self.old }
+        ensures moved { moved_so_far 0 self.new ≡ moved_so_far 0 self.old }
         ensures none_waits { self.old.waiting.items ≡ [] → self.new ≡ self.old }
     {
         if !self.waiting.is_empty() {
@@ -116,7 +116,7 @@ impl Folding {
     /// Counts an event of a batch that is not at its place.
     fn count_event(&mut self)
         ensures batch { self.new.batch ≡ self.old.batch }
-        ensures moved { moved_so_far self.new ≡ record (moved_so_far self.old) { events = capped_count (self.old.moved.events + 1) } }
+        ensures moved { moved_so_far 0 self.new ≡ record (moved_so_far 0 self.old) { events = capped_count (self.old.moved.events + 1) } }
     {
         self.moved.events = self.moved.events.saturating_add(1);
     }
@@ -165,12 +165,35 @@ impl Folding {
     /// Adds a take to the flights that wait.
     fn wait(&mut self, caller: u32) -> Result<(), AllocError>
         ensures batch { self.new.batch ≡ self.old.batch }
-        ensures moves { OnOk result (MovesEvent (moved_so_far self.old) (moved_so_far self.new)) }
+        ensures moves { OnOk result (MovesEvent caller Take (moved_so_far 0 self.old) (moved_so_far 0 self.new)) }
     {
         self.count_event();
-        if has_flight(&self.pages, self.flights) && extend_last(&mut self.waiting, caller) {
+        if self.extend_waiting(caller) {
             return Ok(());
         }
+        self.begin_waiting(caller)?;
+        Ok(())
+    }
+
+    /// Adds a page to the last flight that waits, if it is this caller's, has room, and has a page left. Returns whether it did.
+    fn extend_waiting(&mut self, caller: u32) -> bool
+        ensures batch { self.new.batch ≡ self.old.batch }
+        ensures moved { self.new.moved ≡ self.old.moved }
+        ensures extends { result ≡ true → ExtendsLast caller self.old.waiting.items self.new.waiting.items }
+        ensures unchanged { result ≡ false → self.new.waiting.items ≡ self.old.waiting.items }
+    {
+        if !has_flight(&self.pages, self.flights) {
+            return false;
+        }
+        extend_last(&mut self.waiting, caller)
+    }
+
+    /// Adds a flight of one page to those that wait.
+    fn begin_waiting(&mut self, caller: u32) -> Result<(), AllocError>
+        ensures batch { self.new.batch ≡ self.old.batch }
+        ensures events { self.new.moved.events ≡ self.old.moved.events }
+        ensures begins { OnOk result (TakesLate caller (moved_so_far 0 self.old) (moved_so_far 0 self.new)) }
+    {
         self.moved.batches = self.moved.batches.saturating_add(1);
         self.flights = self.flights.saturating_add(1);
         self.waiting.push_back(WaitingFlight {
@@ -232,6 +255,7 @@ impl Folding {
         ensures moved { self.new.moved ≡ self.old.moved }
         ensures pages { OnOk result (self.new.pages.items ≡ flying_after what.now self.old.flights self.old.pages.items) }
         ensures flights { KeepsFlights self.old self.new }
+        ensures frees { OnOk result (LosesPage (pages_freed what.now) self.old.waiting.items self.new.waiting.items) }
     {
         match *what {
             What::Taken { page } => {
@@ -258,6 +282,7 @@ impl Folding {
         ensures moved { self.new.moved ≡ self.old.moved }
         ensures pages { self.new.pages.items ≡ leave_if_freed outcome page self.old.pages.items }
         ensures flights { KeepsFlights self.old self.new }
+        ensures frees { LosesPage (one_if_freed outcome) self.old.waiting.items self.new.waiting.items }
     {
         if outcome != Outcome::Freed {
             return;
@@ -322,7 +347,7 @@ impl Folding {
 
     /// Returns the number of pages of the first flight that waits; `None` if it has not ended.
     fn next_scan(&self) -> Option<u32>
-        ensures { MatchOption result (self.now.pages.items ≡ [] → self.now.waiting.items ≡ []) (λ _. 1 ≤ length self.now.waiting.items) }
+        ensures { MatchOption result (self.now.pages.items ≡ [] → self.now.waiting.items ≡ []) (λ count. IsNextScan count self.now.waiting.items) }
     {
         let first = self.waiting.front()?;
         (!has_flight(&self.pages, first.flight)).then_some(first.taken)

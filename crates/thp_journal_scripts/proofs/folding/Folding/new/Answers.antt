@@ -1,6 +1,6 @@
-use Rattle.std.proofs.Common.{◌≡◌, ◌∙◌, List, [], ap, arith, length, refl, rules, sym}
+use Rattle.std.proofs.Common.{◌≡◌, ◌∙◌, List, [], ap, arith, length, refl, rules, subst, sym}
 use Rattle.std.proofs.lemmas.List.Elements.{All-nil}
-use Rattle.thp_journal_scripts.specs.Prelude.{IsCallOrScan, Moved, capped_count, neither, nothing_moved, IsOfBatch, IsScan}
+use Rattle.thp_journal_scripts.specs.Prelude.{IsCallOrScan, Moved, capped_count, neither, AreWaiting, IsMovedBatch, nothing_moved, IsOfBatch, IsScan}
 use Rattle.thp_journal_scripts.specs.declared.open_flights.WaitingFlight.{WaitingFlight}
 use Rattle.thp_journal_scripts.proofs.folding.Folding.new.Goals as goal
 
@@ -24,7 +24,14 @@ returns c =
         count = c.default.ensures.1.1.0;
         batches = grind (arith, zero_batches);
         none_late = λ zero. refl;
-        none_waits = λ zero. none_wait;
+        none_waits = λ zero. c.new-2.ensures.items;
+        ended = [];
+        standing = [];
+        each = All-nil IsMovedBatch;
+        waits = subst (λ fs. AreWaiting [] fs) (sym c.new-2.ensures.items) tt;
+        takes_are = refl;
+        scans_are = refl;
+        freed_are = omega arith;
       };
       scans = record { batch_is = refl; some = tt; quiet = record { pages_are = c.new.ensures.items; none_waits = c.new-2.ensures.items; none_moved = nothing; last_flight = refl } };
       plain = λ ne. All-nil IsCallOrScan;

@@ -1,6 +1,6 @@
 use Rattle.std.proofs.Common.{refl}
 use Rattle.thp_journal_scripts.specs.Prelude.{Put, Closing}
-use Rattle.thp_journal_scripts.proofs.FoldingLaws.{begins_none, adds_open_put, adds_put, adds_waiting, no_command}
+use Rattle.thp_journal_scripts.proofs.FoldingLaws.{adds_open_put, adds_put, adds_waiting, no_command}
 use Rattle.thp_journal_scripts.proofs.WholeScanLaws.{puts_end, puts_more, puts_shut}
 use Rattle.thp_journal_scripts.proofs.folding.Folding.put_page.Goals as goal
 
@@ -27,7 +27,7 @@ pub returns : goal.returns
 returns c = record {
   adds = λ e is.
       adds_waiting c.args.ops.now.items c.args.self.now c.count_event.new.self e c.settle.new.ops.items c.settle.new.self c.in_ok-settle.ensures.adds c.args.caller Put refl is
-      c.count_event.ensures.batch (begins_none c.settle.new.self c.count_event.new.self c.count_event.ensures.moved);
+      c.count_event.ensures.batch c.count_event.ensures.moved;
   goes_on = λ w. puts_end c.args.self.now c.args.caller c.count_event.new.self w c.in_default.ensures;
   plain = λ w s at ne. absurd (ne (puts_shut c.args.self.now c.args.caller w c.in_default.ensures s at));
 }
