@@ -1,5 +1,5 @@
 -- What each step of a script adds.
-use Rattle.std.proofs.Common.{◌≡◌, ◌∙◌, ◌+◌, ℕ, arith, length, List, [], ◌∷◌, ◌++◌, append_assoc, ap, refl, subst, sym, All, append-nil}
+use Rattle.std.proofs.Common.{◌≡◌, ◌∙◌, ◌+◌, ℕ, arith, List, [], ◌∷◌, ◌++◌, append_assoc, ap, refl, subst, sym, All, append-nil}
 use Rattle.std.proofs.lemmas.List.Elements.{All-append, All-cons, All-nil}
 use Rattle.std.proofs.lemmas.List.Sums.{sum_by_push}
 use Rattle.thp_history.specs.declared.events.Event.{Event}

@@ -1,12 +1,12 @@
 -- Batches that wait, and their scans.
-use Rattle.std.proofs.Common.{◌≡◌, ◌∙◌, ◌+◌, ◌-◌, ◌<◌, ◌≤◌, add-one, drop, drop-cons, get_or, set, take, ℕ, List, [], ◌∷◌, ◌++◌, length, filter, flat_map, sum_by, append_assoc, append-nil, ap, arith, length-append, refl, subst, sym, All}
+use Rattle.std.proofs.Common.{◌≡◌, ◌∙◌, ◌+◌, ◌-◌, ◌<◌, ◌≤◌, add-one, drop, drop-cons, get_or, set, take, ℕ, List, [], ◌∷◌, ◌++◌, length, append_assoc, append-nil, ap, arith, length-append, refl, subst, sym}
 use Rattle.std.proofs.lemmas.Grind.{common_steps, flat_map-append}
 use Rattle.std.proofs.lemmas.List.{drop-set, take-append-drop, take-set}
 use Rattle.std.proofs.lemmas.List.Elements.{All-append, All-cons, All-nil, filter-append}
 use Rattle.std.proofs.lemmas.List.Sums.{sum_by-append, sum_by-cons}
 use Rattle.thp_history.specs.declared.events.Event.{Event}
 use Rattle.thp_history.specs.Prelude.{History}
-use Rattle.thp_journal_scripts.specs.Prelude.{EventKind, Call, Take, Try, Put, WaitingFlight, Waits, AreWaiting, ExtendsLast, LosesPage, loses_none, loses_one, IsMovedBatch, MovedBatch, all_freed, all_takes, is_take, kind_of, takes_in, IsBy}
+use Rattle.thp_journal_scripts.specs.Prelude.{Take, WaitingFlight, Waits, AreWaiting, ExtendsLast, LosesPage, loses_none, loses_one, IsMovedBatch, MovedBatch, all_freed, all_takes, is_take, kind_of, takes_in, IsBy}
 
 pub takes_both : (xs ys : List MovedBatch) → all_takes (xs ++ ys) ≡ all_takes xs ++ all_takes ys
 takes_both xs ys = flat_map-append (λ (b : MovedBatch). b.takes) xs ys

@@ -11,7 +11,7 @@ use Rattle.thp_script.specs.declared.script.Op.{Op}
 use Rattle.thp_script.specs.declared.script.Op.TheVariants as op
 use Rattle.thp_journal_scripts.specs.declared.folding.Moved.{Moved}
 use Rattle.thp_journal_scripts.specs.declared.folding.EventKind.{EventKind}
-use Rattle.thp_journal_scripts.specs.declared.folding.EventKind.TheVariants.{Call, Take, Try, Put}
+use Rattle.thp_journal_scripts.specs.declared.folding.EventKind.TheVariants.{Take}
 use Rattle.thp_journal_scripts.specs.Repeating.{call_in, kind_of, IsBy, Repeats}
 
 -- the third list has the elements of the first and of the second, each in its order

@@ -1,4 +1,4 @@
-use Rattle.std.proofs.Common.{◌≡◌, ◌-◌, ◌<◌, arith, length, refl}
+use Rattle.std.proofs.Common.{◌-◌, ◌<◌, arith, length, refl}
 use Rattle.std.specs.VecDeque.{deque_len}
 use Rattle.thp_journal_scripts.proofs.LateScanLaws.{loses_at}
 use Rattle.thp_journal_scripts.proofs.open_flights.lose_page.Goals as goal

@@ -1,6 +1,5 @@
-use Rattle.std.proofs.Common.{◌≡◌, ◌∙◌, ◌++◌, List, [], ap, append-nil, length, refl, rules, sym}
+use Rattle.std.proofs.Common.{◌≡◌, ◌∙◌, ◌++◌, [], ap, append-nil, refl, rules, sym}
 use Rattle.thp_journal_scripts.specs.Prelude.{Folding, Idle, Moved, pending_ops, settled}
-use Rattle.thp_journal_scripts.specs.declared.open_flights.WaitingFlight.{WaitingFlight}
 use Rattle.thp_journal_scripts.proofs.FoldingLaws.{commands_then, finishes}
 use Rattle.thp_journal_scripts.proofs.ScriptBatchLaws.{settled_twice}
 use Rattle.thp_journal_scripts.proofs.WholeScanLaws.{nothing_moves}
