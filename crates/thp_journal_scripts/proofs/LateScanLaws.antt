@@ -5,7 +5,7 @@ use Rattle.std.proofs.lemmas.List.{drop-set, take-append-drop, take-set}
 use Rattle.std.proofs.lemmas.List.Elements.{All-append, All-cons, All-nil, filter-append}
 use Rattle.std.proofs.lemmas.List.Sums.{sum_by-append, sum_by-cons}
 use Rattle.thp_history.specs.declared.events.Event.{Event}
-use Rattle.thp_history.specs.Prelude.{History}
+use Rattle.thp_history.specs.Prelude.{History, max_batch}
 use Rattle.thp_journal_scripts.specs.Prelude.{Take, WaitingFlight, Waits, AreWaiting, ExtendsLast, LosesPage, loses_none, loses_one, IsMovedBatch, MovedBatch, all_freed, all_takes, is_take, kind_of, takes_in, IsBy}
 
 pub takes_both : (xs ys : List MovedBatch) → all_takes (xs ++ ys) ≡ all_takes xs ++ all_takes ys
@@ -73,7 +73,7 @@ loses_in bs front back f are =
     let r = has_waiting bs front back f are in
     let b : MovedBatch = record r.batch { freed = length r.batch.takes - (f.taken - 1) } in
     let g : WaitingFlight = record f { taken = f.taken - 1 } in
-    let is : Waits b g = record { takes_are = r.waits.takes_are; count = loses_count f.taken r.batch.freed (length r.batch.takes) r.waits.count } in
+    let is : Waits b g = record { takes_are = r.waits.takes_are; some = r.waits.some; in_range = (let was = r.waits.in_range in omega (arith, was)); count = loses_count f.taken r.batch.freed (length r.batch.takes) r.waits.count } in
     let more : b.freed ≤ r.batch.freed + 1 = loses_freed f.taken r.batch.freed (length r.batch.takes) r.waits.count in
     let was : all_freed bs ≡ all_freed r.before + all_freed (r.batch ∷ r.after) = ap all_freed r.batches_are ∙ freed_both r.before (r.batch ∷ r.after) in
     let now : all_freed (r.before ++ b ∷ r.after) ≡ all_freed r.before + all_freed (b ∷ r.after) = freed_both r.before (b ∷ r.after) in
@@ -105,7 +105,7 @@ pub record LateAfterTake (old : List MovedBatch) (e : Event) (waiting : List Wai
 pub begins_with : (bs : List MovedBatch) (fs : List WaitingFlight) (c n : ℕ) (e : Event) → IsBy c Take e → AreWaiting bs fs → LateAfterTake bs e (fs ++ record { caller = c; taken = 1; flight = n } ∷ [])
 begins_with bs fs c n e by are =
     let b : MovedBatch = record { takes = e ∷ []; freed = 0 } in
-    let is : Waits b (record { caller = c; taken = 1; flight = n }) = record { takes_are = All-cons (IsBy c Take) e [] by (All-nil (IsBy c Take)); count = refl } in
+    let is : Waits b (record { caller = c; taken = 1; flight = n }) = record { takes_are = All-cons (IsBy c Take) e [] by (All-nil (IsBy c Take)); some = omega arith; in_range = omega arith; count = refl } in
     record {
       batches = bs ++ b ∷ [];
       waits = are_waiting bs fs b (record { caller = c; taken = 1; flight = n }) [] [] are is tt;
@@ -113,14 +113,14 @@ begins_with bs fs c n e by are =
       freed_are = let more = freed_both bs (b ∷ []) in omega (arith, more);
     }
 
-pub extends_with : (bs : List MovedBatch) (front : List WaitingFlight) (f : WaitingFlight) (c : ℕ) (e : Event) → f.caller ≡ c → IsBy c Take e → AreWaiting bs (front ++ f ∷ []) → LateAfterTake bs e (front ++ record f { taken = f.taken + 1 } ∷ [])
-extends_with bs front f c e same by are =
+pub extends_with : (bs : List MovedBatch) (front : List WaitingFlight) (f : WaitingFlight) (c : ℕ) (e : Event) → f.caller ≡ c → f.taken + 1 ≤ max_batch → IsBy c Take e → AreWaiting bs (front ++ f ∷ []) → LateAfterTake bs e (front ++ record f { taken = f.taken + 1 } ∷ [])
+extends_with bs front f c e same room by are =
     let r = has_waiting bs front [] f are in
     let b : MovedBatch = record r.batch { takes = r.batch.takes ++ e ∷ [] } in
     let g : WaitingFlight = record f { taken = f.taken + 1 } in
     let longer : length b.takes ≡ length r.batch.takes + 1 = length-append r.batch.takes (e ∷ []) in
     let mine : IsBy f.caller Take e = subst (λ d. IsBy d Take e) (sym same) by in
-    let is : Waits b g = record { takes_are = All-append (IsBy f.caller Take) r.batch.takes (e ∷ []) r.waits.takes_are (All-cons (IsBy f.caller Take) e [] mine (All-nil (IsBy f.caller Take))); count = let was = r.waits.count in omega (arith, longer, was) } in
+    let is : Waits b g = record { takes_are = All-append (IsBy f.caller Take) r.batch.takes (e ∷ []) r.waits.takes_are (All-cons (IsBy f.caller Take) e [] mine (All-nil (IsBy f.caller Take))); some = omega (arith, longer); in_range = room; count = (let was = r.waits.count in omega (arith, longer, was)) } in
     let last : r.after ≡ [] = none_waiting r.after r.after_waits in
     let bs_are : bs ≡ r.before ++ r.batch ∷ [] = r.batches_are ∙ ap (λ xs. r.before ++ r.batch ∷ xs) last in
     record {
@@ -140,7 +140,7 @@ extends_with bs front f c e same by are =
 -- ---- the scan of a batch
 
 pub is_moved_batch : (b : MovedBatch) (f : WaitingFlight) → Waits b f → IsMovedBatch b
-is_moved_batch b f is = record { caller = f.caller; takes_are = is.takes_are; freed_are = let count = is.count in omega (arith, count) }
+is_moved_batch b f is = record { caller = f.caller; takes_are = is.takes_are; some = is.some; freed_are = (let count = is.count in omega (arith, count)); in_range = (let count = is.count in let range = is.in_range in omega (arith, count, range)) }
 
 pub counts_taken : (b : MovedBatch) (f : WaitingFlight) → Waits b f → length b.takes - b.freed ≡ f.taken
 counts_taken b f is = let count = is.count in omega (arith, count)
@@ -157,13 +157,14 @@ module _ (fs : List WaitingFlight) (i : ℕ) (f : WaitingFlight) (inside : i < l
   pub loses_at : (taken : ℕ) → taken ≡ f.taken - 1 → LosesPage 1 fs (set fs i (record f { taken = taken }))
   loses_at taken less = loses_one (take i fs) (drop (i + 1) fs) f refl was_at (now_at (record f { taken = taken }) ∙ ap (λ n. take i fs ++ record f { taken = n } ∷ drop (i + 1) fs) less)
 
-  pub extends_at : (c : ℕ) → length fs ≤ i + 1 → f.caller ≡ c → ExtendsLast c fs (set fs i (record f { taken = f.taken + 1 }))
-  extends_at c last own =
+  pub extends_at : (c : ℕ) → length fs ≤ i + 1 → f.caller ≡ c → f.taken + 1 ≤ max_batch → ExtendsLast c fs (set fs i (record f { taken = f.taken + 1 }))
+  extends_at c last own room =
       let none : drop (i + 1) fs ≡ [] = grind (arith, common_steps) in
       record {
         front = take i fs;
         last = f;
         is_own = own;
+        has_room = room;
         was = was_at ∙ ap (λ gs. take i fs ++ f ∷ gs) none;
         now = now_at (record f { taken = f.taken + 1 }) ∙ ap (λ gs. take i fs ++ record f { taken = f.taken + 1 } ∷ gs) none;
       }

@@ -306,7 +306,7 @@ module _ (h : History) (past : List Op) (b : ScriptBatch) (n m : MovedSoFar) (e 
       let last = x.last in
       let was = x.was in
       let now = x.now in
-      let late = extends_with f.standing front last c e x.is_own by (subst (λ fs. AreWaiting f.standing fs) was f.waits) in
+      let late = extends_with f.standing front last c e x.is_own x.has_room by (subst (λ fs. AreWaiting f.standing fs) was f.waits) in
       let as_long : length m.waiting ≡ length n.waiting = ap (λ fs. length fs) now ∙ length-append front (record last { taken = last.taken + 1 } ∷ []) ∙ sym (length-append front (last ∷ [])) ∙ ap (λ fs. length fs) (sym was) in
       moves late.batches more freed (batches ∙ f.batches ∙ ap (λ w. capped_count (length f.late + w)) (sym as_long)) (subst (λ fs. AreWaiting late.batches fs) (sym now) late.waits) (takes_after late.batches by.1 late.takes_are) late.freed_are
 

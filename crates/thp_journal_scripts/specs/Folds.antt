@@ -5,7 +5,7 @@ use Rattle.thp_history.specs.declared.events.Outcome.{Outcome}
 use Rattle.thp_history.specs.declared.events.Outcome.TheVariants.{Freed}
 use Rattle.thp_history.specs.declared.events.What.{What}
 use Rattle.thp_history.specs.declared.events.What.TheVariants.{UnmapWhole, UnmapSub, Unpin, Taken, Split, Used, Back, Dropped}
-use Rattle.thp_history.specs.Prelude.{History}
+use Rattle.thp_history.specs.Prelude.{History, max_batch}
 use Rattle.thp_script.specs.declared.script.Op.{Op}
 use Rattle.thp_journal_scripts.specs.declared.folding.Folding.{Folding}
 use Rattle.thp_journal_scripts.specs.declared.folding.EventKind.{EventKind}
@@ -49,6 +49,8 @@ moved_so_far freed f = record { events = f.moved.events; batches = f.moved.batch
 -- a batch waits: a flight of so many pages of this caller, besides those that were freed
 pub record Waits (batch : MovedBatch) (flight : WaitingFlight) : Type 0 where
   pub takes_are : All (IsBy flight.caller Take) batch.takes
+  pub some : 1 ≤ length batch.takes
+  pub in_range : flight.taken ≤ max_batch
   pub count : flight.taken + batch.freed ≡ length batch.takes
 
 abbrev pub AreWaiting : List MovedBatch → List WaitingFlight → Type 0
@@ -61,6 +63,7 @@ pub record ExtendsLast (c : ℕ) (old new : List WaitingFlight) : Type 0 where
   pub front : List WaitingFlight
   pub last : WaitingFlight
   pub is_own : last.caller ≡ c
+  pub has_room : last.taken + 1 ≤ max_batch
   pub was : old ≡ front ++ last ∷ []
   pub now : new ≡ front ++ record last { taken = last.taken + 1 } ∷ []
 

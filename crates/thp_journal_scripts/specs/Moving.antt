@@ -6,7 +6,7 @@ use Rattle.thp_history.specs.declared.events.Outcome.{Outcome}
 use Rattle.thp_history.specs.declared.events.Outcome.TheVariants.{Freed}
 use Rattle.thp_history.specs.declared.events.What.{What}
 use Rattle.thp_history.specs.declared.events.What.TheVariants.{UnmapWhole, UnmapSub, Unpin}
-use Rattle.thp_history.specs.Prelude.{History}
+use Rattle.thp_history.specs.Prelude.{History, max_batch}
 use Rattle.thp_script.specs.declared.script.Op.{Op}
 use Rattle.thp_script.specs.declared.script.Op.TheVariants as op
 use Rattle.thp_journal_scripts.specs.declared.folding.Moved.{Moved}
@@ -67,11 +67,13 @@ pub record MovedBatch : Type 0 where
   pub takes : History
   pub freed : ℕ
 
--- one caller took the pages
+-- one caller took the pages, and one command can scan those that count
 pub record IsMovedBatch (batch : MovedBatch) : Type 0 where
   pub caller : ℕ
   pub takes_are : All (IsBy caller Take) batch.takes
+  pub some : 1 ≤ length batch.takes
   pub freed_are : batch.freed ≤ length batch.takes
+  pub in_range : length batch.takes - batch.freed ≤ max_batch
 
 -- the scan of a moved batch: it counts the pages that were taken, less those that were freed
 abbrev pub late_scan : MovedBatch → Op

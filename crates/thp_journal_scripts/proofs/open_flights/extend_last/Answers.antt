@@ -7,4 +7,4 @@ pub returns-clause-extends : goal.returns-clause-extends
 returns-clause-extends c = λ yes.
     let fs = c.args.waiting.now.items in
     let inside : deque_len c.args.waiting.now - 1 < length fs = (let some : 0 < deque_len c.args.waiting.now = c.in-Some.ensures.variant.0 refl in omega (arith, some)) in
-    extends_at fs (deque_len c.args.waiting.now - 1) c.in-Some.last.now inside c.in-Some.ensures.value c.args.by (omega arith) c.if-last-by.false
+    extends_at fs (deque_len c.args.waiting.now - 1) c.in-Some.last.now inside c.in-Some.ensures.value c.args.by (omega arith) c.if-last-by.false (omega arith)
