@@ -8,7 +8,7 @@ use Rattle.thp_history.specs.declared.events.What.TheVariants as what
 use Rattle.thp_history.specs.Prelude.{with_block, History}
 use Rattle.thp_script.specs.declared.script.Op.{Op}
 use Rattle.thp_script.specs.declared.script.Op.TheVariants as op
-use Rattle.thp_journal_scripts.specs.Prelude.{EventKind, Call, Take, Try, Put, Folding, ScriptBatch, Idle, Taking, Open, Closing, pending_ops, settled, Completes, PutsMore, TakesMore, TriesMore, nothing_moved, AddsCommands, AddsEvent, AddsPlain, AddsTo, EndsWaiting, FoldEnds, HasAdded, IsAtPlace, IsFoldedTo, Moved, MovedSoFar, MovesBy, MovesEvent, FollowsEvent, ExtendsLast, LosesPage, TakesLate, WaitingFlight, begins_late, extends_late, freed_in, moved_so_far, pages_freed, call_in, kind_of, IsBy, capped_count, scan_place, scan_place_after, Between, Elsewhere, InPuts, InTakes, InTries, IsCallOrScan, ScanPlace}
+use Rattle.thp_journal_scripts.specs.Prelude.{EventKind, Call, Take, Try, Put, Folding, ScriptBatch, Idle, Taking, Open, Closing, pending_ops, settled, Completes, PutsMore, TakesMore, TriesMore, nothing_moved, AddsCommands, AddsEvent, AddsPlain, AddsTo, EndsWaiting, FoldEnds, HasAdded, IsAtPlace, IsFoldedTo, Moved, MovedSoFar, MovesBy, MovesEvent, FollowsEvent, CountsCall, ExtendsLast, LosesPage, TakesLate, WaitingFlight, begins_late, extends_late, freed_in, moved_so_far, pages_freed, call_in, kind_of, IsBy, capped_count, scan_place, scan_place_after, Between, Elsewhere, InPuts, InTakes, InTries, IsCallOrScan, ScanPlace}
 use Rattle.thp_journal_scripts.proofs.WholeScanLaws.{place_more, scans_more, stays_elsewhere}
 use Rattle.thp_journal_scripts.proofs.ScriptBatchLaws.{completes, first_take, frees, is_script, one_more_call, one_more_put, one_more_take, one_more_try, open_put, open_try, puts_nothing, scans, settles, waits}
 
@@ -32,13 +32,16 @@ with_freed k same = ap (λ (z : MovedSoFar). record z { freed = k }) same
 
 moves_with : (k c : ℕ) (kind : EventKind) (old new : Folding) → MovesEvent c kind (moved_so_far 0 old) (moved_so_far 0 new) → MovesEvent c kind (moved_so_far k old) (moved_so_far k new)
 moves_with k c (Call o) old new moves = with_freed k moves
-moves_with k c Take old new moves = (moves.0, refl, takes_with moves.2)
+moves_with k c Take old new moves = (moves.0, refl, moves.2, takes_with moves.3)
   where
     takes_with : TakesLate c (moved_so_far 0 old) (moved_so_far 0 new) → TakesLate c (moved_so_far k old) (moved_so_far k new)
     takes_with (begins_late flight now batches) = begins_late flight now batches
     takes_with (extends_late x batches) = extends_late x batches
 moves_with k c Try old new moves = with_freed k moves
 moves_with k c Put old new moves = with_freed k moves
+
+counts_with : (k : ℕ) (old new : Folding) → CountsCall (moved_so_far 0 old) (moved_so_far 0 new) → CountsCall (moved_so_far k old) (moved_so_far k new)
+counts_with k old new counts = (with_freed k counts.0, counts.1, counts.2)
 
 ends_with : (k count : ℕ) (old new : Folding) → EndsWaiting count (moved_so_far 0 old) (moved_so_far 0 new) → EndsWaiting count (moved_so_far k old) (moved_so_far k new)
 ends_with k count old new ends = (ends.0, with_freed k ends.1, ends.2)
@@ -47,8 +50,8 @@ pub same_so_far : (old new : Folding) → new.moved ≡ old.moved → new.waitin
 same_so_far old new moved waiting = grind arith
 
 -- a take is moved
-pub take_moves : (c : ℕ) (a m b : Folding) → moved_so_far 0 m ≡ record (moved_so_far 0 a) { events = capped_count (a.moved.events + 1) } → b.moved.events ≡ m.moved.events → TakesLate c (moved_so_far 0 m) (moved_so_far 0 b) → MovesEvent c Take (moved_so_far 0 a) (moved_so_far 0 b)
-take_moves c a m b counted events takes = (events ∙ ap (λ (x : MovedSoFar). x.events) counted, refl, takes_late takes)
+pub take_moves : (c : ℕ) (a m b : Folding) → moved_so_far 0 m ≡ record (moved_so_far 0 a) { events = capped_count (a.moved.events + 1) } → b.moved.events ≡ m.moved.events → b.moved.calls ≡ m.moved.calls → TakesLate c (moved_so_far 0 m) (moved_so_far 0 b) → MovesEvent c Take (moved_so_far 0 a) (moved_so_far 0 b)
+take_moves c a m b counted events calls takes = (events ∙ ap (λ (x : MovedSoFar). x.events) counted, refl, calls ∙ ap (λ (x : MovedSoFar). x.calls) counted, takes_late takes)
   where
     waiting : m.waiting.items ≡ a.waiting.items
     waiting = ap (λ (x : MovedSoFar). x.waiting) counted
@@ -125,7 +128,7 @@ follow_then o p e a m b adds batch moved lost = (
   adds.1,
   λ h past k f.
       subst (λ x. IsFoldedTo (h ++ e ∷ []) (past ++ adds.0) x (moved_so_far (k + pages_freed e.what) b)) (sym batch)
-      (frees (h ++ e ∷ []) (past ++ adds.0) m.batch (moved_so_far k m) (moved_so_far (k + pages_freed e.what) b) (pages_freed e.what) lost (ap (λ (v : Moved). v.events) moved) (ap (λ (v : Moved). v.batches) moved) refl (adds.2 h past k f)),
+      (frees (h ++ e ∷ []) (past ++ adds.0) m.batch (moved_so_far k m) (moved_so_far (k + pages_freed e.what) b) (pages_freed e.what) lost (ap (λ (v : Moved). v.events) moved) (ap (λ (v : Moved). v.batches) moved) (ap (λ (v : Moved). v.calls) moved) refl (adds.2 h past k f)),
 )
 
 freed_more : (h : History) (e : Event) → freed_in (h ++ e ∷ []) ≡ freed_in h + pages_freed e.what
@@ -230,12 +233,12 @@ module _ (o : List Op) (a b : Folding) (e : Event) where
       )
 
       -- a call
-      pub adds_call : (x : Op) → kind_of e.what ≡ Call x → m.batch ≡ settled a.batch → q ≡ p ++ x ∷ [] → b.batch ≡ m.batch → moved_so_far 0 b ≡ moved_so_far 0 m → HasAdded o q (AddsEvent e a b)
+      pub adds_call : (x : Op) → kind_of e.what ≡ Call x → m.batch ≡ settled a.batch → q ≡ p ++ x ∷ [] → b.batch ≡ m.batch → CountsCall (moved_so_far 0 m) (moved_so_far 0 b) → HasAdded o q (AddsEvent e a b)
       adds_call x is quiet more batch events = (
         so_far.0 ++ x ∷ [],
         more ∙ ap (λ os. os ++ x ∷ []) so_far.1 ∙ append_assoc o so_far.0 (x ∷ []),
-        λ h past k f. as_said (h ++ e ∷ []) ((past ++ so_far.0) ++ x ∷ []) (past ++ (so_far.0 ++ x ∷ [])) (settled a.batch) b.batch (moved_so_far k m) (moved_so_far k b) (append_assoc past so_far.0 (x ∷ [])) (batch ∙ quiet) (with_freed k events)
-            (one_more_call h (past ++ so_far.0) a.batch (moved_so_far k m) e x is (subst (λ y. IsFoldedTo h (past ++ so_far.0) y (moved_so_far k m)) quiet (so_far.2 h past k f))),
+        λ h past k f. as_said (h ++ e ∷ []) ((past ++ so_far.0) ++ x ∷ []) (past ++ (so_far.0 ++ x ∷ [])) (settled a.batch) b.batch (moved_so_far k b) (moved_so_far k b) (append_assoc past so_far.0 (x ∷ [])) (batch ∙ quiet) refl
+            (one_more_call h (past ++ so_far.0) a.batch (moved_so_far k m) (moved_so_far k b) e x is (counts_with k m b events) (subst (λ y. IsFoldedTo h (past ++ so_far.0) y (moved_so_far k m)) quiet (so_far.2 h past k f))),
       )
 
 -- where no flight waits

@@ -1,23 +1,21 @@
 -- The script of a node's events.
-use Rattle.std.specs.Prelude.{◌≡◌, ◌≤◌, ◌+◌, ◌-◌, ◌++◌, ℕ, nat_eq, All, List, [], ◌∷◌, None, length, map, if◌then◌else◌}
+use Rattle.std.specs.Prelude.{◌≡◌, ◌≤◌, ◌+◌, ◌++◌, ℕ, nat_eq, All, List, [], ◌∷◌, None, length, map, if◌then◌else◌}
 use Rattle.thp_history.specs.declared.events.Event.{Event}
 use Rattle.thp_history.specs.declared.events.Outcome.{Outcome}
 use Rattle.thp_history.specs.declared.events.Outcome.TheVariants.{Freed}
 use Rattle.thp_history.specs.declared.events.What.{What}
 use Rattle.thp_history.specs.declared.events.What.TheVariants.{UnmapWhole, UnmapSub, Unpin, Taken, Split, Used, Back, Dropped}
-use Rattle.thp_history.specs.Prelude.{History, max_batch}
+use Rattle.thp_history.specs.Prelude.{History}
 use Rattle.thp_script.specs.declared.script.Op.{Op}
 use Rattle.thp_journal_scripts.specs.declared.folding.Folding.{Folding}
-use Rattle.thp_journal_scripts.specs.declared.folding.EventKind.{EventKind}
-use Rattle.thp_journal_scripts.specs.declared.folding.EventKind.TheVariants.{Take}
 use Rattle.thp_journal_scripts.specs.declared.folding.Moved.{Moved}
 use Rattle.thp_journal_scripts.specs.declared.open_flights.FlyingPage.{FlyingPage}
-use Rattle.thp_journal_scripts.specs.declared.open_flights.WaitingFlight.{WaitingFlight}
 use Rattle.thp_journal_scripts.specs.declared.script_batch.ScriptBatch.{ScriptBatch}
 use Rattle.thp_journal_scripts.specs.declared.script_batch.ScriptBatch.TheVariants as batch
 use Rattle.thp_journal_scripts.specs.ScriptBatches.{RepeatsUpTo, TakesSome}
+use Rattle.thp_journal_scripts.specs.LateScans.{moved_so_far, AreWaiting, MovedSoFar}
 use Rattle.thp_journal_scripts.specs.Moving.{all_freed, all_takes, capped_count, freed_in, late_scan, pages_freed, takes_in, Interleaves, IsMovedBatch, IsOfBatch, IsScan, MovedBatch, RepeatsExcept}
-use Rattle.thp_journal_scripts.specs.Repeating.{calls_in, calls_of, IsBy, Repeats}
+use Rattle.thp_journal_scripts.specs.Repeating.{calls_in, calls_of, Repeats}
 use Rattle.thp_journal_scripts.specs.WholeScans.{scan_place, IsCallOrScan, IsWholeScans, ScanPlace, Between, InTakes, InTries, InPuts, Elsewhere}
 
 -- a list got more elements, with this property
@@ -35,67 +33,6 @@ pub record IsScript (h : History) (ops : List Op) (moved : Moved) : Type 0 where
   pub except : RepeatsExcept h ops moved
   pub whole : IsWholeScans h → moved ≡ nothing_moved
   pub plain : IsWholeScans h → All IsCallOrScan ops
-
--- the events and batches moved so far, and those of the batches that wait; and how many pages were freed
-pub record MovedSoFar : Type 0 where
-  pub events : ℕ
-  pub batches : ℕ
-  pub waiting : List WaitingFlight
-  pub freed : ℕ
-
-abbrev pub moved_so_far : ℕ → Folding → MovedSoFar
-moved_so_far freed f = record { events = f.moved.events; batches = f.moved.batches; waiting = f.waiting.items; freed = freed }
-
--- a batch waits: a flight of so many pages of this caller, besides those that were freed
-pub record Waits (batch : MovedBatch) (flight : WaitingFlight) : Type 0 where
-  pub takes_are : All (IsBy flight.caller Take) batch.takes
-  pub some : 1 ≤ length batch.takes
-  pub in_range : flight.taken ≤ max_batch
-  pub count : flight.taken + batch.freed ≡ length batch.takes
-
-abbrev pub AreWaiting : List MovedBatch → List WaitingFlight → Type 0
-AreWaiting [] [] = Unit {0}
-AreWaiting (b ∷ bs) (f ∷ fs) = Waits b f × AreWaiting bs fs
-AreWaiting _ _ = ⊥
-
--- the last flight that waits is this caller's, and got one more page
-pub record ExtendsLast (c : ℕ) (old new : List WaitingFlight) : Type 0 where
-  pub front : List WaitingFlight
-  pub last : WaitingFlight
-  pub is_own : last.caller ≡ c
-  pub has_room : last.taken + 1 ≤ max_batch
-  pub was : old ≡ front ++ last ∷ []
-  pub now : new ≡ front ++ record last { taken = last.taken + 1 } ∷ []
-
--- one more page is taken into a batch that waits, the last or a new one
-pub data TakesLate (c : ℕ) (old new : MovedSoFar) : Type 0 where
-  begins_late : (flight : ℕ) → new.waiting ≡ old.waiting ++ record { caller = c; taken = 1; flight = flight } ∷ [] → new.batches ≡ capped_count (old.batches + 1) → TakesLate c old new
-  extends_late : ExtendsLast c old.waiting new.waiting → new.batches ≡ old.batches → TakesLate c old new
-
--- one more event of this kind is moved
-abbrev pub MovesEvent : ℕ → EventKind → MovedSoFar → MovedSoFar → Type 0
-MovesEvent c Take old new = (new.events ≡ capped_count (old.events + 1)) × (new.freed ≡ old.freed) × TakesLate c old new
-MovesEvent c kind old new = new ≡ record old { events = capped_count (old.events + 1) }
-
--- the first flight that waits has so many pages
-pub record IsNextScan (count : ℕ) (waiting : List WaitingFlight) : Type 0 where
-  pub flight : WaitingFlight
-  pub others : List WaitingFlight
-  pub waiting_are : waiting ≡ flight ∷ others
-  pub count_is : count ≡ flight.taken
-
--- the first batch waits no more
-abbrev pub EndsWaiting : ℕ → MovedSoFar → MovedSoFar → Type 0
-EndsWaiting count old new = (first : WaitingFlight) × (old ≡ record new { waiting = first ∷ new.waiting }) × (count ≡ first.taken)
-
--- so many pages were freed, at most one, and if one, then maybe of a batch that waits
-pub data LosesPage (freed : ℕ) (old new : List WaitingFlight) : Type 0 where
-  loses_none : new ≡ old → LosesPage freed old new
-  loses_one : (front back : List WaitingFlight) (flight : WaitingFlight) → freed ≡ 1 → old ≡ front ++ flight ∷ back → new ≡ front ++ record flight { taken = flight.taken - 1 } ∷ back → LosesPage freed old new
-
--- once no batch waits
-abbrev pub MovesBy : Moved → MovedSoFar → Type 0
-MovesBy moved so_far = (moved.events ≡ so_far.events) × (moved.batches ≡ so_far.batches) × ((so_far.events ≡ 0 → ⊥) → so_far.waiting ≡ [])
 
 -- the same for the commands so far, except that the last events and the batches that wait can have no command yet
 pub record IsFoldedTo (h : History) (ops : List Op) (batch : ScriptBatch) (moved : MovedSoFar) : Type 0 where
@@ -120,6 +57,8 @@ pub record IsFoldedTo (h : History) (ops : List Op) (batch : ScriptBatch) (moved
   pub takes_are : takes_in away ≡ all_takes ended ++ all_takes standing
   pub scans_are : late ≡ map late_scan ended
   pub freed_are : all_freed ended + all_freed standing ≤ moved.freed
+  pub called : moved.calls ≤ length (calls_of h)
+  pub none_called : moved.batches ≡ 0 → moved.calls ≡ 0
 
 abbrev pub HasCommands : History → List Op → ℕ → Folding → Type 0
 HasCommands h ops freed f = IsFoldedTo h ops f.batch (moved_so_far freed f)

@@ -12,7 +12,7 @@ use Rattle.thp_script.specs.declared.script.Op.TheVariants as op
 use Rattle.thp_journal_scripts.specs.declared.folding.Moved.{Moved}
 use Rattle.thp_journal_scripts.specs.declared.folding.EventKind.{EventKind}
 use Rattle.thp_journal_scripts.specs.declared.folding.EventKind.TheVariants.{Take}
-use Rattle.thp_journal_scripts.specs.Repeating.{call_in, kind_of, IsBy, Repeats}
+use Rattle.thp_journal_scripts.specs.Repeating.{call_in, calls_of, kind_of, IsBy, Repeats}
 
 -- the third list has the elements of the first and of the second, each in its order
 pub data Interleaves {X : Type 0} : List X → List X → List X → Type 0 where
@@ -95,7 +95,7 @@ pub record AreLateScans (h away : History) (late : List Op) : Type 0 where
   pub freed_are : all_freed batches ≤ freed_in h
 
 -- The commands repeat the history at their places, except so many events of batches that are not at their place; the commands
--- besides are scans, one for each batch moved.
+-- besides are scans, one for each batch moved. A call is moved at most once, and only if a batch is.
 pub record RepeatsExcept (h : History) (ops : List Op) (moved : Moved) : Type 0 where
   pub kept : History
   pub away : History
@@ -109,3 +109,5 @@ pub record RepeatsExcept (h : History) (ops : List Op) (moved : Moved) : Type 0 
   pub count : moved.events ≡ capped_count (length away)
   pub batches : moved.batches ≡ capped_count (length late)
   pub scans : AreLateScans h away late
+  pub calls : moved.calls ≤ length (calls_of h)
+  pub none_called : moved.batches ≡ 0 → moved.calls ≡ 0

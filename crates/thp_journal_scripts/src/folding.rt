@@ -4,7 +4,7 @@ ghost use Rattle.thp_history.specs.Prelude.{event_with};
 ghost use Rattle.thp_history.specs.declared.events.Event.{Event};
 ghost use Rattle.thp_history.specs.declared.events.What.{What};
 ghost use Rattle.thp_history.specs.declared.events.What.TheVariants.{Taken};
-ghost use Rattle.thp_journal_scripts.specs.Prelude.{both_moved, capped_count, flying_after, kind_of, leave_if_freed, moved_so_far, once_ended, one_if_freed, pages_freed, pending_ops, place_of_call, place_of_put, place_of_take, place_of_try, scan_place_of, settled, AddsCommands, AddsEvent, AddsPlain, AddsTo, Call, ExtendsLast, FoldEnds, GoesOn, HasAdded, Idle, IsAtPlace, IsBy, IsFolded, IsNextScan, IsSettled, KeepsFlights, LosesPage, MovesEvent, Open, Put, ScanPlace, Take, TakesLate, Try};
+ghost use Rattle.thp_journal_scripts.specs.Prelude.{both_moved, capped_count, flying_after, kind_of, leave_if_freed, moved_so_far, once_ended, one_if_freed, pages_freed, pending_ops, place_of_call, place_of_put, place_of_take, place_of_try, scan_place_of, settled, AddsCommands, AddsEvent, AddsPlain, AddsTo, Call, CountsCall, ExtendsLast, FoldEnds, GoesOn, HasAdded, Idle, IsAtPlace, IsBy, IsFolded, IsNextScan, IsSettled, KeepsFlights, LosesPage, MovesEvent, Open, Put, ScanPlace, Take, TakesLate, Try};
 
 use crate::open_flights::{FlyingPage, WaitingFlight, extend_last, has_flight, leave, lose_page};
 use crate::script_batch::ScriptBatch;
@@ -105,7 +105,7 @@ impl Folding {
     /// Counts a call if a flight waits.
     fn count_call(&mut self)
         ensures batch { self.new.batch ≡ self.old.batch }
-        ensures moved { moved_so_far 0 self.new ≡ moved_so_far 0 self.old }
+        ensures counts { CountsCall (moved_so_far 0 self.old) (moved_so_far 0 self.new) }
         ensures none_waits { self.old.waiting.items ≡ [] → self.new ≡ self.old }
     {
         if !self.waiting.is_empty() {
@@ -192,6 +192,7 @@ impl Folding {
     fn begin_waiting(&mut self, caller: u32) -> Result<(), AllocError>
         ensures batch { self.new.batch ≡ self.old.batch }
         ensures events { self.new.moved.events ≡ self.old.moved.events }
+        ensures calls { self.new.moved.calls ≡ self.old.moved.calls }
         ensures begins { OnOk result (TakesLate caller (moved_so_far 0 self.old) (moved_so_far 0 self.new)) }
     {
         self.moved.batches = self.moved.batches.saturating_add(1);

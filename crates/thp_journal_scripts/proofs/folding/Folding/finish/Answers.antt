@@ -18,7 +18,7 @@ returns c =
     finishes o c.write_scans.new.ops.items a d _
     (commands_then o c.put_back_nothing.new.ops.items c.write_scans.new.ops.items a m m d
     (commands_then o c.settle.new.ops.items c.put_back_nothing.new.ops.items a s s m c.in_ok-settle.ensures.adds refl refl c.in_ok-put_back_nothing.ensures.adds) refl refl c.in_ok-write_scans.ensures.adds)
-    (c.in_ok-write_scans.ensures.batch ∙ closed) (refl, refl, λ some. (c.in_ok-write_scans.ensures.all none_left (λ none. some (ap (λ (v : Moved). v.events) c.in_ok-write_scans.ensures.moved ∙ none))))
+    (c.in_ok-write_scans.ensures.batch ∙ closed) (refl, refl, refl, λ some. (c.in_ok-write_scans.ensures.all none_left (λ none. some (ap (λ (v : Moved). v.events) c.in_ok-write_scans.ensures.moved ∙ none))))
     (λ at. nothing_moves a m d c.len-left.result at (λ is. ap (λ (f : Folding). f.moved) (c.in_ok-put_back_nothing.ensures.idle (s_idle is)) ∙ ap (λ (f : Folding). f.moved) c.in_ok-settle.ensures.rest) c.in_ok-write_scans.ensures.none (search rules))
     (λ at.
     let none : m.moved.events ≡ 0 = ap (λ (f : Folding). f.moved.events) (c.in_ok-put_back_nothing.ensures.idle (s_idle at.batch_is)) ∙ ap (λ (f : Folding). f.moved.events) c.in_ok-settle.ensures.rest ∙ ap (λ (v : Moved). v.events) at.quiet.none_moved in

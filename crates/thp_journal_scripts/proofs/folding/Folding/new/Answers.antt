@@ -32,6 +32,8 @@ returns c =
         takes_are = refl;
         scans_are = refl;
         freed_are = omega arith;
+        called = let none = ap (λ (m : Moved). m.calls) nothing in omega (arith, none);
+        none_called = λ zero. ap (λ (m : Moved). m.calls) nothing;
       };
       scans = record { batch_is = refl; some = tt; quiet = record { pages_are = c.new.ensures.items; none_waits = c.new-2.ensures.items; none_moved = nothing; last_flight = refl } };
       plain = λ ne. All-nil IsCallOrScan;
