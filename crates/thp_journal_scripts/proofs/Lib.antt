@@ -1,6 +1,7 @@
+mod LateScanLaws
+pub mod FoldingLaws
+pub mod JournalScriptLaws
 pub mod NodeScriptLaws
 pub mod RepeatLaws
 pub mod ScriptBatchLaws
 pub mod WholeScanLaws
-pub mod FoldingLaws
-pub mod JournalScriptLaws

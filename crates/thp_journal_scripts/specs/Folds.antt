@@ -1,5 +1,5 @@
 -- The script of a node's events.
-use Rattle.std.specs.Prelude.{◌≡◌, ◌++◌, ℕ, nat_eq, All, List, [], ◌∷◌, None, length, map, if◌then◌else◌}
+use Rattle.std.specs.Prelude.{◌≡◌, ◌≤◌, ◌+◌, ◌++◌, ℕ, nat_eq, All, List, [], ◌∷◌, None, length, map, if◌then◌else◌}
 use Rattle.thp_history.specs.declared.events.Event.{Event}
 use Rattle.thp_history.specs.declared.events.Outcome.{Outcome}
 use Rattle.thp_history.specs.declared.events.Outcome.TheVariants.{Freed}
@@ -13,7 +13,8 @@ use Rattle.thp_journal_scripts.specs.declared.open_flights.FlyingPage.{FlyingPag
 use Rattle.thp_journal_scripts.specs.declared.script_batch.ScriptBatch.{ScriptBatch}
 use Rattle.thp_journal_scripts.specs.declared.script_batch.ScriptBatch.TheVariants as batch
 use Rattle.thp_journal_scripts.specs.ScriptBatches.{RepeatsUpTo, TakesSome}
-use Rattle.thp_journal_scripts.specs.Moving.{capped_count, Interleaves, IsOfBatch, IsScan, RepeatsExcept}
+use Rattle.thp_journal_scripts.specs.LateScans.{moved_so_far, AreWaiting, MovedSoFar}
+use Rattle.thp_journal_scripts.specs.Moving.{all_freed, all_takes, capped_count, freed_in, late_scan, pages_freed, takes_in, Interleaves, IsMovedBatch, IsOfBatch, IsScan, MovedBatch, RepeatsExcept}
 use Rattle.thp_journal_scripts.specs.Repeating.{calls_in, calls_of, Repeats}
 use Rattle.thp_journal_scripts.specs.WholeScans.{scan_place, IsCallOrScan, IsWholeScans, ScanPlace, Between, InTakes, InTries, InPuts, Elsewhere}
 
@@ -29,35 +30,50 @@ nothing_moved = record { batches = 0; calls = 0; events = 0; left = 0 }
 pub record IsScript (h : History) (ops : List Op) (moved : Moved) : Type 0 where
   pub calls : calls_in ops ≡ calls_of h
   pub repeats : moved.events ≡ 0 → Repeats None ops h None
-  pub except : RepeatsExcept h ops moved.events
+  pub except : RepeatsExcept h ops moved
   pub whole : IsWholeScans h → moved ≡ nothing_moved
   pub plain : IsWholeScans h → All IsCallOrScan ops
 
--- the same for the commands so far, except that the last events can have no command yet
-pub record IsFoldedTo (h : History) (ops : List Op) (batch : ScriptBatch) (events : ℕ) : Type 0 where
+-- the same for the commands so far, except that the last events and the batches that wait can have no command yet
+pub record IsFoldedTo (h : History) (ops : List Op) (batch : ScriptBatch) (moved : MovedSoFar) : Type 0 where
   pub calls : calls_in ops ≡ calls_of h
   pub kept : History
   pub away : History
   pub here : List Op
   pub late : List Op
+  pub ended : List MovedBatch
+  pub standing : List MovedBatch
   pub events_are : Interleaves kept away h
   pub commands_are : Interleaves here late ops
   pub repeats : RepeatsUpTo kept here batch
   pub away_are : All IsOfBatch away
   pub late_are : All IsScan late
-  pub count : events ≡ capped_count (length away)
-  pub none_late : events ≡ 0 → late ≡ []
+  pub count : moved.events ≡ capped_count (length away)
+  pub batches : moved.batches ≡ capped_count (length late + length moved.waiting)
+  pub none_late : moved.events ≡ 0 → late ≡ []
+  pub none_waits : moved.events ≡ 0 → moved.waiting ≡ []
+  pub each : All IsMovedBatch ended
+  pub waits : AreWaiting standing moved.waiting
+  pub takes_are : takes_in away ≡ all_takes ended ++ all_takes standing
+  pub scans_are : late ≡ map late_scan ended
+  pub freed_are : all_freed ended + all_freed standing ≤ moved.freed
+  pub called : moved.calls ≤ length (calls_of h)
+  pub none_called : moved.batches ≡ 0 → moved.calls ≡ 0
 
-abbrev pub HasCommands : History → List Op → Folding → Type 0
-HasCommands h ops f = IsFoldedTo h ops f.batch f.moved.events
+abbrev pub HasCommands : History → List Op → ℕ → Folding → Type 0
+HasCommands h ops freed f = IsFoldedTo h ops f.batch (moved_so_far freed f)
 
 -- with these commands, the script so far repeats one more event
 abbrev pub AddsEvent : Event → Folding → Folding → List Op → Type 0
-AddsEvent e old new more = (h : History) (past : List Op) → HasCommands h past old → HasCommands (h ++ e ∷ []) (past ++ more) new
+AddsEvent e old new more = (h : History) (past : List Op) (freed : ℕ) → HasCommands h past freed old → HasCommands (h ++ e ∷ []) (past ++ more) freed new
+
+-- the same, with the pages that the event frees
+abbrev pub FollowsEvent : Event → Folding → Folding → List Op → Type 0
+FollowsEvent e old new more = (h : History) (past : List Op) (freed : ℕ) → HasCommands h past freed old → HasCommands (h ++ e ∷ []) (past ++ more) (freed + pages_freed e.what) new
 
 -- with these commands, the script so far repeats the same events
 abbrev pub AddsCommands : Folding → Folding → List Op → Type 0
-AddsCommands old new more = (h : History) (past : List Op) → HasCommands h past old → HasCommands h (past ++ more) new
+AddsCommands old new more = (h : History) (past : List Op) (freed : ℕ) → HasCommands h past freed old → HasCommands h (past ++ more) freed new
 
 -- ---- whole scans
 
@@ -145,7 +161,7 @@ pub record KeepsFlights (old new : Folding) : Type 0 where
 
 -- the script so far
 pub record IsFolded (h : History) (ops : List Op) (f : Folding) : Type 0 where
-  pub commands : HasCommands h ops f
+  pub commands : HasCommands h ops (freed_in h) f
   pub scans : IsAtPlace (scan_place h) f
   pub plain : ArePlain (scan_place h) ops
 

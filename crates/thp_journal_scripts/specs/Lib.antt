@@ -1,6 +1,7 @@
 pub mod TextTrace
 pub mod Repeating
 pub mod ScriptBatches
+pub mod LateScans
 pub mod Moving
 pub mod Turns
 pub mod WholeScans

@@ -1,7 +1,8 @@
 -- Re-exports the definitions and types of this library: other files import those that they cite from here, in one line.
-pub use Rattle.thp_journal_scripts.specs.Folds.{AddsCommands, AddsEvent, AddsPlain, AddsTo, FoldEnds, GoesOn, HasAdded, IsAtPlace, IsAtScan, IsFolded, IsFoldedTo, IsInScan, IsQuiet, IsScript, KeepsFlights, flying, flying_after, leave, leave_if_freed, nothing_moved, pages_in_scan}
+pub use Rattle.thp_journal_scripts.specs.Folds.{AddsCommands, AddsEvent, AddsPlain, AddsTo, FoldEnds, FollowsEvent, GoesOn, HasAdded, IsAtPlace, IsAtScan, IsFolded, IsFoldedTo, IsInScan, IsQuiet, IsScript, KeepsFlights, flying, flying_after, leave, leave_if_freed, nothing_moved, pages_in_scan}
 pub use Rattle.thp_journal_scripts.specs.JournalScripts.{AddsLine, AreScripted, IsLegalPart, IsScriptOf, IsScripting, ScriptSoFar, ended_nodes, repeated_of, shape_and_events}
-pub use Rattle.thp_journal_scripts.specs.Moving.{Interleaves, IsOfBatch, IsScan, both_moved, capped_count, first, neither, second}
+pub use Rattle.thp_journal_scripts.specs.LateScans.{AreWaiting, CountsCall, EndsWaiting, ExtendsLast, IsNextScan, LosesPage, MovedSoFar, MovesBy, MovesEvent, TakesLate, Waits, begins_late, extends_late, loses_none, loses_one, moved_so_far}
+pub use Rattle.thp_journal_scripts.specs.Moving.{AreLateScans, Interleaves, IsMovedBatch, IsOfBatch, IsScan, MovedBatch, all_freed, all_takes, both_moved, capped_count, first, freed_in, is_take, late_scan, one_if_freed, pages_freed, takes_in, neither, second}
 pub use Rattle.thp_journal_scripts.specs.NodeScripts.{BeginsNode, EndedNode, EndsAs, EndsNode, GoesOnAs, GoesOnWith, IsBegun, IsEnded, IsWriting, NodeScript, StaysWritten, head_text, moved_by, node_after, node_script_text, node_scripts, nodes_text, out_of_turn_by, out_of_turn_in, script_shape, taken_of, untaken}
 pub use Rattle.thp_journal_scripts.specs.Repeating.{AreBy, IsBy, IsCall, IsScanBy, Repeats, RepeatsBy, call_in, calls_in, calls_of, is_call, kind_of}
 pub use Rattle.thp_journal_scripts.specs.ScriptBatches.{Completes, EndsPuts, EndsTakes, EndsTries, IsIncomplete, IsPending, IsSettled, PutsMore, RepeatsUpTo, TakesMore, TakesSome, TriesMore, open_by, pending_ops, settled}
@@ -15,6 +16,7 @@ pub use Rattle.thp_journal_scripts.specs.declared.folding.Folding.{Folding}
 pub use Rattle.thp_journal_scripts.specs.declared.folding.Moved.{Moved}
 pub use Rattle.thp_journal_scripts.specs.declared.journal_script.JournalScript.{JournalScript}
 pub use Rattle.thp_journal_scripts.specs.declared.open_flights.FlyingPage.{FlyingPage}
+pub use Rattle.thp_journal_scripts.specs.declared.open_flights.WaitingFlight.{WaitingFlight}
 pub use Rattle.thp_journal_scripts.specs.declared.script_batch.ScriptBatch.{ScriptBatch}
 pub use Rattle.thp_journal_scripts.specs.declared.script_batch.ScriptBatch.TheVariants.{Closing, Idle, Open, Scanned, Taking, Trying}
 pub use Rattle.thp_journal_scripts.specs.declared.script_check.ScriptedNodes.{ScriptedNodes}

@@ -1,10 +1,10 @@
 //! The commands that repeat the events of a node.
-ghost use Rattle.std.specs.Prelude.{◌≡◌, ◌++◌, ◌+◌, [], ◌∷◌, ℕ, IfOk, OnOk, true};
+ghost use Rattle.std.specs.Prelude.{◌≡◌, ◌++◌, ◌+◌, [], ◌∷◌, ℕ, IfOk, MatchOption, OnOk, false, true};
 ghost use Rattle.thp_history.specs.Prelude.{event_with};
 ghost use Rattle.thp_history.specs.declared.events.Event.{Event};
 ghost use Rattle.thp_history.specs.declared.events.What.{What};
 ghost use Rattle.thp_history.specs.declared.events.What.TheVariants.{Taken};
-ghost use Rattle.thp_journal_scripts.specs.Prelude.{both_moved, capped_count, flying_after, kind_of, leave_if_freed, once_ended, pending_ops, place_of_call, place_of_put, place_of_take, place_of_try, scan_place_of, settled, AddsCommands, AddsEvent, AddsPlain, AddsTo, Call, FoldEnds, GoesOn, HasAdded, Idle, IsAtPlace, IsBy, IsFolded, IsSettled, KeepsFlights, Open, Put, ScanPlace, Take, Try};
+ghost use Rattle.thp_journal_scripts.specs.Prelude.{both_moved, capped_count, flying_after, kind_of, leave_if_freed, moved_so_far, once_ended, one_if_freed, pages_freed, pending_ops, place_of_call, place_of_put, place_of_take, place_of_try, scan_place_of, settled, AddsCommands, AddsEvent, AddsPlain, AddsTo, Call, CountsCall, ExtendsLast, FoldEnds, GoesOn, HasAdded, Idle, IsAtPlace, IsBy, IsFolded, IsNextScan, IsSettled, KeepsFlights, LosesPage, MovesEvent, Open, Put, ScanPlace, Take, TakesLate, Try};
 
 use crate::open_flights::{FlyingPage, WaitingFlight, extend_last, has_flight, leave, lose_page};
 use crate::script_batch::ScriptBatch;
@@ -105,7 +105,7 @@ impl Folding {
     /// Counts a call if a flight waits.
     fn count_call(&mut self)
         ensures batch { self.new.batch ≡ self.old.batch }
-        ensures events { self.new.moved.events ≡ self.old.moved.events }
+        ensures counts { CountsCall (moved_so_far 0 self.old) (moved_so_far 0 self.new) }
         ensures none_waits { self.old.waiting.items ≡ [] → self.new ≡ self.old }
     {
         if !self.waiting.is_empty() {
@@ -116,7 +116,7 @@ impl Folding {
     /// Counts an event of a batch that is not at its place.
     fn count_event(&mut self)
         ensures batch { self.new.batch ≡ self.old.batch }
-        ensures events { self.new.moved.events ≡ capped_count (self.old.moved.events + 1) }
+        ensures moved { moved_so_far 0 self.new ≡ record (moved_so_far 0 self.old) { events = capped_count (self.old.moved.events + 1) } }
     {
         self.moved.events = self.moved.events.saturating_add(1);
     }
@@ -165,12 +165,36 @@ impl Folding {
     /// Adds a take to the flights that wait.
     fn wait(&mut self, caller: u32) -> Result<(), AllocError>
         ensures batch { self.new.batch ≡ self.old.batch }
-        ensures events { self.new.moved.events ≡ capped_count (self.old.moved.events + 1) }
+        ensures moves { OnOk result (MovesEvent caller Take (moved_so_far 0 self.old) (moved_so_far 0 self.new)) }
     {
         self.count_event();
-        if has_flight(&self.pages, self.flights) && extend_last(&mut self.waiting, caller) {
+        if self.extend_waiting(caller) {
             return Ok(());
         }
+        self.begin_waiting(caller)?;
+        Ok(())
+    }
+
+    /// Adds a page to the last flight that waits, if it is this caller's, has room, and has a page left. Returns whether it did.
+    fn extend_waiting(&mut self, caller: u32) -> bool
+        ensures batch { self.new.batch ≡ self.old.batch }
+        ensures moved { self.new.moved ≡ self.old.moved }
+        ensures extends { result ≡ true → ExtendsLast caller self.old.waiting.items self.new.waiting.items }
+        ensures unchanged { result ≡ false → self.new.waiting.items ≡ self.old.waiting.items }
+    {
+        if !has_flight(&self.pages, self.flights) {
+            return false;
+        }
+        extend_last(&mut self.waiting, caller)
+    }
+
+    /// Adds a flight of one page to those that wait.
+    fn begin_waiting(&mut self, caller: u32) -> Result<(), AllocError>
+        ensures batch { self.new.batch ≡ self.old.batch }
+        ensures events { self.new.moved.events ≡ self.old.moved.events }
+        ensures calls { self.new.moved.calls ≡ self.old.moved.calls }
+        ensures begins { OnOk result (TakesLate caller (moved_so_far 0 self.old) (moved_so_far 0 self.new)) }
+    {
         self.moved.batches = self.moved.batches.saturating_add(1);
         self.flights = self.flights.saturating_add(1);
         self.waiting.push_back(WaitingFlight {
@@ -232,6 +256,7 @@ impl Folding {
         ensures moved { self.new.moved ≡ self.old.moved }
         ensures pages { OnOk result (self.new.pages.items ≡ flying_after what.now self.old.flights self.old.pages.items) }
         ensures flights { KeepsFlights self.old self.new }
+        ensures frees { OnOk result (LosesPage (pages_freed what.now) self.old.waiting.items self.new.waiting.items) }
     {
         match *what {
             What::Taken { page } => {
@@ -258,6 +283,7 @@ impl Folding {
         ensures moved { self.new.moved ≡ self.old.moved }
         ensures pages { self.new.pages.items ≡ leave_if_freed outcome page self.old.pages.items }
         ensures flights { KeepsFlights self.old self.new }
+        ensures frees { LosesPage (one_if_freed outcome) self.old.waiting.items self.new.waiting.items }
     {
         if outcome != Outcome::Freed {
             return;
@@ -287,6 +313,7 @@ impl Folding {
     /// Puts back the open batch if no page is left in it.
     fn put_back_nothing(&mut self, ops: &mut Vec<Op>) -> Result<(), AllocError>
         ensures idle { OnOk result (self.old.batch ≡ Idle → self.new ≡ self.old) }
+        ensures pages { OnOk result (self.new.pages.items ≡ self.old.pages.items) }
         ensures idle_ops { OnOk result (self.old.batch ≡ Idle → ops.new.items ≡ ops.old.items) }
         ensures closes { OnOk result (self.old.pages.items ≡ [] → IsSettled self.old.batch → self.new.batch ≡ Idle) }
         ensures adds { OnOk result (HasAdded ops.old.items ops.new.items (AddsCommands self.old self.new)) }
@@ -320,7 +347,9 @@ impl Folding {
     }
 
     /// Returns the number of pages of the first flight that waits; `None` if it has not ended.
-    fn next_scan(&self) -> Option<u32> {
+    fn next_scan(&self) -> Option<u32>
+        ensures { MatchOption result (self.now.pages.items ≡ [] → self.now.waiting.items ≡ []) (λ count. IsNextScan count self.now.waiting.items) }
+    {
         let first = self.waiting.front()?;
         (!has_flight(&self.pages, first.flight)).then_some(first.taken)
     }
@@ -330,6 +359,8 @@ impl Folding {
         ensures none { OnOk result (self.old.moved.events ≡ 0 → self.new ≡ self.old) }
         ensures none_written { OnOk result (self.old.moved.events ≡ 0 → ops.new.items ≡ ops.old.items) }
         ensures batch { OnOk result (self.new.batch ≡ self.old.batch) }
+        ensures moved { OnOk result (self.new.moved ≡ self.old.moved) }
+        ensures all { OnOk result (self.old.pages.items ≡ [] → (self.old.moved.events ≡ 0 → ⊥) → self.new.waiting.items ≡ []) }
         ensures adds { OnOk result (HasAdded ops.old.items ops.new.items (AddsCommands self.old self.new)) }
     {
         if self.moved.events == 0 {

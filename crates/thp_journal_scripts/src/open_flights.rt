@@ -1,7 +1,7 @@
 //! The pages in flight, each with the number of its flight, and the flights that wait.
-ghost use Rattle.std.specs.Prelude.{◌≡◌, [], nat_eq};
+ghost use Rattle.std.specs.Prelude.{◌≡◌, [], false, true, nat_eq};
 ghost use Rattle.std.specs.List.{list_any};
-ghost use Rattle.thp_journal_scripts.specs.Prelude.{leave, FlyingPage};
+ghost use Rattle.thp_journal_scripts.specs.Prelude.{leave, ExtendsLast, FlyingPage, LosesPage};
 
 use crate::script_batch::MAX_TAKEN;
 use std::collections::VecDeque;
@@ -44,7 +44,10 @@ pub(crate) struct WaitingFlight {
 }
 
 /// Adds a page to the last of the flights that wait, if that is this caller's and has room. Returns whether it did.
-pub(crate) fn extend_last(waiting: &mut VecDeque<WaitingFlight>, by: u32) -> bool {
+pub(crate) fn extend_last(waiting: &mut VecDeque<WaitingFlight>, by: u32) -> bool
+    ensures extends { result ≡ true → ExtendsLast by waiting.old.items waiting.new.items }
+    ensures unchanged { result ≡ false → waiting.new.items ≡ waiting.old.items }
+{
     let Some(last) = waiting.back_mut() else {
         return false;
     };
@@ -57,7 +60,8 @@ pub(crate) fn extend_last(waiting: &mut VecDeque<WaitingFlight>, by: u32) -> boo
 
 /// Removes a page from a flight, if that waits: the page was freed.
 pub(crate) fn lose_page(waiting: &mut VecDeque<WaitingFlight>, flight: u64)
-    ensures { waiting.old.items ≡ [] → waiting.new.items ≡ [] }
+    ensures none { waiting.old.items ≡ [] → waiting.new.items ≡ [] }
+    ensures loses { LosesPage 1 waiting.old.items waiting.new.items }
 {
     let Some(first) = waiting.front() else {
         return;

@@ -12,7 +12,7 @@ returns c =
     record {
       adds = λ e is.
           adds_call c.args.ops.now.items a d e c.settle.new.ops.items m c.in_ok-settle.ensures.adds c.push.new.self.items c.args.op is
-          c.in_ok-settle.ensures.batch c.in_ok-push.ensures.items c.count_call.ensures.batch c.count_call.ensures.events;
+          c.in_ok-settle.ensures.batch c.in_ok-push.ensures.items c.count_call.ensures.batch c.count_call.ensures.counts;
       goes_on = calls_on a d (λ idle none. settled_idle a m d c.in_ok-settle.ensures.rest c.count_call.ensures.none_waits idle none);
       plain = λ e is s at ne.
           let idle : a.batch ≡ Idle = (subst (λ t. IsAtPlace t a) (calls_shut s ne) at).batch_is in

@@ -27,7 +27,7 @@ pub returns : goal.returns
 returns c = record {
   adds = λ e is.
       adds_waiting c.args.ops.now.items c.args.self.now c.count_event.new.self e c.settle.new.ops.items c.settle.new.self c.in_ok-settle.ensures.adds c.args.caller Put refl is
-      c.count_event.ensures.batch c.count_event.ensures.events;
+      c.count_event.ensures.batch c.count_event.ensures.moved;
   goes_on = λ w. puts_end c.args.self.now c.args.caller c.count_event.new.self w c.in_default.ensures;
   plain = λ w s at ne. absurd (ne (puts_shut c.args.self.now c.args.caller w c.in_default.ensures s at));
 }

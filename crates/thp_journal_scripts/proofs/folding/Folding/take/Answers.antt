@@ -32,7 +32,7 @@ returns c =
     record {
       adds = λ e is.
           adds_waiting c.args.ops.now.items c.args.self.now c.wait.new.self e c.put_back_nothing.new.ops.items m c.in_ok-put_back_nothing.ensures.adds c.args.caller Take refl is
-          c.wait.ensures.batch c.wait.ensures.events;
+          c.wait.ensures.batch c.in_ok-wait.ensures.moves;
       goes_on = λ p. takes_not c.args.self.now c.args.caller m c.wait.new.self p c.in_default.ensures c.in_ok-put_back_nothing.ensures.idle (λ idle none. let free = c.is_free.ensures.complete idle none in cc);
       plain = λ p s at ne.
           no_command c.args.ops.now.items c.put_back_nothing.new.ops.items (c.in_ok-put_back_nothing.ensures.idle_ops (subst (λ t. IsAtPlace t c.args.self.now) (takes_shut c.args.self.now c.args.caller p c.in_default.ensures s at ne) at).batch_is);
