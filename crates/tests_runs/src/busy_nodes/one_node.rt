@@ -30,7 +30,7 @@ impl<'a> OneNode<'a> {
         requires callers { node.pass.callers ≡ 2 }
         requires first { node.pass.first ≡ 0 }
         requires end { node.pass.end ≡ 2 }
-        ensures { result ≡ of_two node }
+        ensures { result ≡ of_two node.entry }
     {
         OneNode { node }
     }
@@ -52,6 +52,7 @@ impl<'a> Steps for OneNode<'a> {
     ghost fronts = { fronts_in };
 
     fn nodes(&self) -> u32 {
+        let OneNode { node: _node } = self; // so that the proof sees what is held
         1
     }
 
