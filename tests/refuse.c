@@ -1,5 +1,5 @@
 // Preloaded, it refuses a program one growth of memory, or one start of a thread: the one whose number, from 1 on over
-// all threads, stands in the variable REFUSE_MEMORY or REFUSE_THREAD. The file that REFUSE_COUNTS names, of 24 bytes,
+// all threads, is in the variable REFUSE_MEMORY or REFUSE_THREAD. The file that REFUSE_COUNTS names, of 24 bytes,
 // then has how many growths and how many starts there were, and how many bytes the growths requested. tests/memory.py builds
 // and uses it.
 #define _GNU_SOURCE

@@ -33,15 +33,15 @@ RING = 1 << 24  # bytes of all rings; all of them count as resident
 QUIET = 3600000  # milliseconds between khugepaged's rounds
 AFTER = 0.05  # seconds for what comes after the commands' end
 MOST_MEMORY = 64  # MiB of one look at contents
-NICEST = -20  # setpriority(2)
+LEAST_NICE = -20  # setpriority(2); commands may have hundreds of threads, and records that are taken too late are lost
 
 
 @contextmanager
-def preferred() -> Iterator[None]:
-    """Prefers this thread to the commands that it has started, which may be many: else it takes records too late, and they are lost."""
+def at_nice(value: int) -> Iterator[None]:
+    """Runs this thread, and what it starts meanwhile, at a nice value, if it may."""
     former = os.getpriority(os.PRIO_PROCESS, 0)
     with suppress(PermissionError):
-        os.setpriority(os.PRIO_PROCESS, 0, NICEST)
+        os.setpriority(os.PRIO_PROCESS, 0, value)
     try:
         yield
     finally:
@@ -119,6 +119,7 @@ class Taker:
         self._tracks, self._most, self._look = tracks, most, look
         self._every = math.inf if every is None else every
         self._due = time.monotonic() + self._every
+        self._nice = os.getpriority(os.PRIO_PROCESS, 0)  # of looks
         self.is_full = False
 
     def take(self) -> None:
@@ -126,7 +127,8 @@ class Taker:
         self._take_records()
         if time.monotonic() < self._due:
             return
-        found = [*self._look()]
+        with at_nice(self._nice):
+            found = [*self._look()]
         self._take_records()
         for track in self._tracks:
             for record in found if not self.is_full else ():
@@ -184,7 +186,7 @@ class Recorder:
             reclaimer.start()
             until, why = time.monotonic() + (self._options.seconds or math.inf), ""
             try:
-                with preferred():
+                with at_nice(LEAST_NICE):
                     while not why and running.is_running():
                         time.sleep(PAUSE)
                         taker.take()

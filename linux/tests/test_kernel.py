@@ -43,6 +43,11 @@ class BuildTest(unittest.TestCase):
                 self.assertEqual((done.returncode, done.stderr), (0, ""))
             self.assertEqual(*((folder / "out/thpkernel.so").read_bytes() for folder in folders))
 
+    def test_functions_that_are_called_are_static(self) -> None:
+        """While preemption is disabled, Linux 6.12 allows no others."""
+        for path in KERNEL.glob("*.[ch]"):
+            self.assertNotRegex(path.read_text(), r"(?m)^__noinline")
+
 
 class MessageTest(unittest.TestCase):
     def test_what_is_missing_is_named_in_a_line(self) -> None:
