@@ -167,7 +167,7 @@ outside:
 	@$(if $(and $(GIVEN),$(wildcard $(CHECKER)),$(wildcard $(DRAWER)),$(wildcard $(ARCHIVE))),python3 tests/package.py $(GIVEN) $(CHECKER) $(DRAWER) $(ARCHIVE) || test $$? = 77)
 
 fuzz: run
-	@python3 tests/fuzz.py $(PROGRAM) --cases $(CASES) --seed $(SEED)
+	@python3 tests/fuzz.py $(PROGRAM) $(if $(wildcard $(CHECKER)),--checker $(CHECKER)) --cases $(CASES) --seed $(SEED)
 	@$(if $(wildcard $(CHECKER)),python3 tests/repeats.py $(CHECKER) $(PROGRAM) --cases 10000 --seed $(SEED))
 
 memory: run

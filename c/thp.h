@@ -10,8 +10,9 @@
  * On x86-64 the library needs a processor of the level x86-64-v2 (POPCNT, SSE4.2); an older one ends the program with SIGILL. On
  * aarch64 it runs on every processor.
  *
- * A new node takes about 100 KB, and 1.2 KB for each block. It stores every event of its journal until it is destroyed: 96 bytes
- * each, in memory that doubles when it is full. thp_node_reserve gets this memory in advance. A program that runs for long and
+ * A new node takes about 100 KB, and reserves 1.2 KB of address space for each block, which takes memory when the block is first
+ * used. It stores every event of its journal until it is destroyed: 96 bytes each, in memory that doubles when it is full. An
+ * allocator of your own must not touch what it gives. thp_node_reserve gets this memory in advance. A program that runs for long and
  * does not need the journal creates its node by thp_node_create_counting or thp_cell_create_counting: such a node only counts its
  * events, and its memory does not grow.
  *
@@ -59,10 +60,11 @@
 /** @brief The version of this header; thp_version() returns that of the library. */
 #define THP_VERSION "0.3.0"
 
-#define THP_MAX_BLOCKS 4096   /**< the greatest number of live pages of a node; the least is 1 */
+#define THP_MAX_BLOCKS 16777216 /**< the greatest number of live pages of a node; the least is 1 */
 #define THP_MIN_ORDER 2       /**< the least order of a node's pages */
 #define THP_MAX_ORDER 9       /**< the greatest order: 512 subpages */
-#define THP_MAX_CALLERS 64    /**< the greatest number of callers; their numbers are below it */
+#define THP_MAX_CALLERS 64    /**< the greatest number of callers of a node's handle; their numbers are below it */
+#define THP_MAX_CELL_CALLERS 4096 /**< the greatest number of callers of a cell */
 #define THP_MAX_BATCH 128     /**< the greatest number of pages of one take or scan */
 #define THP_MAX_TEXT 16777216 /**< the length in bytes of the longest text that thp_check_text reads */
 
@@ -88,7 +90,7 @@ typedef enum thp_code {
     /* why the library does not call the node */
     THP_EMPTY = 12,      /**< the handle is empty */
     THP_IN_USE = 13,     /**< the handle is not empty */
-    THP_BAD_CALLER = 14, /**< the caller's number is 64 or more */
+    THP_BAD_CALLER = 14, /**< the caller's number is 64 or more, or not one of the pass's */
     THP_BAD_SIZE = 15,   /**< no node has this shape, or no cell this number of callers */
     THP_BAD_COUNT = 16,  /**< more than 128 pages were requested */
     THP_NO_BATCH = 17,   /**< the caller has no open batch */
@@ -305,7 +307,7 @@ thp_code thp_check_reason(thp_check *check, void *buffer, size_t capacity, size_
 /**
  * @brief Creates a node with no page.
  * @param[out] node an empty handle, which the call fills
- * @param blocks the greatest number of live pages, 1 to 4,096
+ * @param blocks the greatest number of live pages, 1 to 16,777,216
  * @param order the order of the pages, 2 to 9: each page has 2^order subpages
  * @param underused the threshold, below 2^order: a page with more zero-filled subpages is worth a split; or THP_UNDERUSED_OFF
  * @return THP_OK, THP_IN_USE, THP_BAD_SIZE, THP_OUT_OF_MEMORY, THP_NULL
@@ -420,12 +422,12 @@ thp_code thp_node_reserve(thp_node *node, uint32_t events);
 thp_code thp_node_queue_length(const thp_node *node, uint32_t *pages);
 /**
  * @brief Stores the queued pages, oldest first, as many as there is room for. Allocates no memory. Reads the journal back to the event
- * that queued the oldest page.
+ * that queued the oldest page. A node of more than 4,096 blocks is refused with THP_BAD_SIZE.
  * @param node the node
  * @param[out] pages receives the pages; may be null if room is 0
  * @param room the number of pages that the array holds
  * @param[out] count the number of queued pages, which can be greater than room
- * @return THP_OK, THP_EMPTY, THP_NO_JOURNAL, THP_NULL
+ * @return THP_OK, THP_EMPTY, THP_BAD_SIZE, THP_NO_JOURNAL, THP_NULL
  */
 thp_code thp_node_queue(const thp_node *node, uint64_t *pages, size_t room, uint32_t *count);
 /**
@@ -469,7 +471,7 @@ thp_code thp_node_journal(const thp_node *node, void *buffer, size_t capacity, s
  * @param blocks as for thp_node_create
  * @param order as for thp_node_create
  * @param underused as for thp_node_create
- * @param callers the number of callers, 1 to 64; they are numbered from 0
+ * @param callers the number of callers, 1 to 4,096; they are numbered from 0
  * @return THP_OK, THP_IN_USE, THP_BAD_SIZE, THP_OUT_OF_MEMORY, THP_NULL
  */
 thp_code thp_cell_create(thp_pass *pass, uint32_t blocks, uint32_t order, uint32_t underused, uint32_t callers);

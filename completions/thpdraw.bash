@@ -2,7 +2,7 @@
 _thpdraw() {
     local word=${COMP_WORDS[COMP_CWORD]} before=${COMP_WORDS[COMP_CWORD - 1]}
     case $before in
-    --node) COMPREPLY=($(compgen -W '0 1 2 3 4 5 6 7' -- "$word")) ;;
+    --node) COMPREPLY=() ;;
     *) COMPREPLY=($(compgen -W '--table --node --progress --help --version' -- "$word")) ;;
     esac
 }

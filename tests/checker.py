@@ -191,7 +191,7 @@ def summed(text: bytes) -> Ended:
 
 def faults() -> Iterator[Row]:
     """Each error of a journal, also after an illegal event; and a script is not a journal."""
-    for text, line, word in faulty_texts.JOURNALS:
+    for text, line, word in faulty_texts.JOURNALS + faulty_texts.LARGE_JOURNALS:
         yield Row("faults", repr(text[-60:]), Call((), text), fault(line, word))
     for text, line in faulty_texts.ILLEGAL:
         lines = text.count(b"\n")

@@ -38,7 +38,7 @@ MOST_WORDS = 24_000
 MOST_ROWS = 40
 """The most rows of the tables in docs/MAP.md."""
 
-MOST_KERNEL_LINES = {"Python": 10_540, "C": 2_770, "tests": 6_640}
+MOST_KERNEL_LINES = {"Python": 10_591, "C": 2_770, "tests": 6_640}
 """The most lines of `linux/`: Python and C outside tests, and both in tests. 540, 270 and 140 of them are for what `thprecord` observes
 beside what it infers: functions.bpf.h with what loads it, traced_scans.py, observed.py, queue_laws.py, and their tests."""
 

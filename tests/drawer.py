@@ -116,15 +116,19 @@ def shortened(event: str) -> str:
     return event if len(event) <= 70 else f"{event[:67]} .."
 
 
-FEW_ROWS, MOST_ROWS, MOST_TURNS = 24, 60, 4000
-"""Up to this many rows of pages are spaced widely; more rows, and bars that begin and end more often, are not drawn."""
+FEW_ROWS, MOST_ROWS, MANY_PAGES, MOST_TURNS = 24, 60, 1000, 4000
+"""Up to this many rows of pages are spaced widely; more rows, and bars that begin and end more often, are not drawn. Of many pages,
+the first have rows."""
+
+MOST_BYTES = 2_000_000
+"""No picture has more bytes."""
 
 
 def bars(drawn: Drawn) -> list[str]:
     """The paths of the bars in a node's rows, stage by stage, according to its table; none if it has no rows."""
     width, end = drawn.width(), len(drawn.prefixes)
     letters = [drawn.prefixes[min(first + width, end) - 1].letters for first in range(0, end, width)]
-    count = drawn.node.allocated
+    count = MOST_ROWS if drawn.node.allocated > MANY_PAGES else drawn.node.allocated
     if not 1 <= count <= MOST_ROWS:
         return []
     place = [6000 * column // len(letters) for column in range(len(letters) + 1)]
@@ -158,6 +162,8 @@ class Picture:
 
     def wrong_with(self, output: bytes) -> Optional[str]:
         """What is wrong with this picture, or None."""
+        if len(output) > MOST_BYTES:
+            return f"it has {len(output)} bytes"
         if re.fullmatch(rb"[\n\x20-\x7e]+\n", output) is None:
             return "it has other bytes than letters and line feeds"
         try:
@@ -192,8 +198,19 @@ def pictures() -> Iterator[Picture]:
     for name, text in {"the first script's": FIRST_JOURNAL, "several nodes": SEVERAL}.items():
         yield Picture(name, text)
     yield Picture("more than 1,200 events", wide())
+    for pages in (MANY_PAGES, MANY_PAGES + 1):
+        yield Picture(f"{pages} pages", short_lives(pages))
     for text, _ in faulty_texts.ILLEGAL:
         yield Picture(repr(text[-60:]), text + b"end\n")
+
+
+def short_lives(pages: int) -> bytes:
+    """A journal of many pages, of which at most nine live at once."""
+    lines = ["thp-journal 3", "node 0 blocks 16 order 2 underused off"]
+    for page in range(pages):
+        lines.append(f"0 alloc {page}")
+        lines += [f"0 unmapwhole {page - 8} freed 0-3"] if page >= 8 else []
+    return "\n".join([*lines, "end", ""]).encode()
 
 
 def wide(pages: int = 240) -> bytes:
@@ -241,7 +258,7 @@ def alone() -> Iterator[Row]:
         for number in range(count):
             for words in (("--node", str(number), *TABLE), (*TABLE, f"--node=+{number}")):
                 yield Row("one node", f"{name}, {' '.join(words)}", Call(words, text), of_node(text, number))
-        for number in (count, 7):
+        for number in (count, 7, 65535):
             for more in ((), TABLE):
                 yield Row("one node", f"{name}, none {number}", Call(("--node", str(number), *more), text), no_node(number))
     yield Row("one node", "of a text with an error", Call(("--node", "7"), SEVERAL + b"fly\n"), fault(SEVERAL.count(b"\n") + 1, "bad-word"))
@@ -304,7 +321,7 @@ def stored() -> Iterator[Row]:
 def faults() -> Iterator[Row]:
     """Each error of a journal, also after an illegal event: nothing is written. And a script is not a journal."""
     for words in ((), TABLE):
-        for text, number, word in faulty_texts.JOURNALS:
+        for text, number, word in faulty_texts.JOURNALS + faulty_texts.LARGE_JOURNALS:
             yield Row("faults", repr(text[-60:]), Call(words, text), fault(number, word))
         yield Row("faults", "a script", Call(words, FIRST), fault(1, "bad-word"))
     for text, _ in faulty_texts.ILLEGAL:
@@ -332,8 +349,8 @@ def requests() -> Iterator[Row]:
 def numbers_at_fault() -> Iterator[Row]:
     """Values of `--node` that are no number of a node, none, and two."""
     option = "--node <NODE>"
-    for value in ("8", "4294967296", "-1"):
-        yield at_fault((f"--node={value}",), f"invalid value '{value}' for '{option}': {value} is not in 0..=7", "")
+    for value in ("65536", "4294967296", "-1"):
+        yield at_fault((f"--node={value}",), f"invalid value '{value}' for '{option}': {value} is not in 0..=65535", "")
     for value in ("x", "0x1", " 1", "1,2"):
         yield at_fault((f"--node={value}",), f"invalid value '{value}' for '{option}': invalid digit found in string", "")
     yield at_fault(("--node", ""), f"invalid value '' for '{option}': cannot parse integer from empty string", "")

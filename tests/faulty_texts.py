@@ -99,7 +99,7 @@ JOURNALS: list[tuple[bytes, int, str]] = [
     (b"thp-journal\n", 1, "bad-count"),
     (b"thp-journal 1 1\n", 1, "bad-count"),
     (b"thp-journal 0\n", 1, "bad-number"),
-    (b"thp-journal 4\n", 1, "bad-number"),
+    (b"thp-journal 5\n", 1, "bad-number"),
     (b"thp-journal 01\n", 1, "bad-number"),
     (b"thp-journal 1\nthp-journal 1\n", 2, "bad-order"),
     (b"thp-journal 1\nend\n", 2, "bad-order"),
@@ -150,6 +150,29 @@ JOURNALS: list[tuple[bytes, int, str]] = [
     (ONE + b"0 pin 0\n0 fly 0\nend\n", 4, "bad-word"),
 ]
 """Journals: the text, the line and the word of its first error."""
+
+FOUR = b"thp-journal 4\nnode 0 blocks 1 order 9 underused off\n"
+
+SMALL_JOURNALS: list[tuple[bytes, int, str]] = [
+    (b"thp-journal 4\n", 1, "bad-number"),
+    (FOUR + b"end\n", 1, "bad-number"),
+]
+"""The same, by what reads versions 1 to 3 only."""
+
+LARGE_JOURNALS: list[tuple[bytes, int, str]] = [
+    (b"thp-journal 4\n", 2, "cut"),
+    (FOUR, 3, "cut"),
+    (FOUR + b"thp-journal 4\nend\n", 3, "bad-order"),
+    (b"thp-journal 4\nnode 0 blocks 1\nend\n", 2, "bad-word"),
+    (b"thp-journal 4\nnode 0 blocks 0 order 9 underused off\nend\n", 2, "bad-number"),
+    (b"thp-journal 4\nnode 0 blocks 16777217 order 9 underused off\nend\n", 2, "bad-number"),
+    (FOUR + b"node 2 blocks 1 order 9 underused off\nend\n", 3, "bad-order"),
+    (FOUR + b"node 65535 blocks 1 order 9 underused off\nend\n", 3, "bad-order"),
+    (FOUR + b"node 65536 blocks 1 order 9 underused off\nend\n", 3, "bad-number"),
+    (FOUR + b"65536 alloc 0\nend\n", 3, "bad-number"),
+    (FOUR + b"65535 alloc 0\n65535 fly 0\nend\n", 4, "bad-word"),
+]
+"""The same, by what reads version 4, too."""
 
 STEPS = b"0 alloc 0\n0 splitpmd 0\n0 unmapsub 0 0 2 queued -\n"
 

@@ -1,12 +1,13 @@
 #!/usr/bin/env python3
 """Compares the built program with a plain reading of the model on random scripts, journals and command lines.
 
-    tests/fuzz.py PROGRAM [--cases N] [--seed S] [--jobs J] [--keep FOLDER]
+    tests/fuzz.py PROGRAM [--checker THPCHECK] [--only KIND] [--cases N] [--seed S] [--jobs J] [--keep FOLDER]
 
+With a checker, journals of version 4 are among the cases, which `thpcheck` alone reads.
 The expected results for each text (the exit status, standard output and standard error) are computed by model.py, script.py
 and texts.py, and those for words by usage.py. The program's help must contain each option, command, refusal and error named
 there, and no other option or command. At the end a table shows what was covered, by kind. The first ten texts that differ are
-stored in FOLDER, and the exit status is then 1. It is also 1 if 2,000 cases or more left out something that is to be covered.
+stored in FOLDER, and the exit status is then 1. It is also 1 if 2,000 cases or more of all kinds left out something that is to be covered.
 """
 
 from __future__ import annotations
@@ -24,16 +25,17 @@ from dataclasses import dataclass, field
 from multiprocessing import Pool
 from pathlib import Path
 from random import Random
-from typing import Callable, Iterator
+from typing import Callable, Iterator, Optional
 
+import random_journals
 import random_texts
 import random_words
 import usage
 from model import REFUSALS
 from process import Ended, Word
 from random_texts import Script, joined
-from script import Run, first_illegal, sections_of
-from texts import COMMANDS, EVENTS, FAULT_WORDS, BadText, journal_fault, number, script_fault
+from script import Run, first_illegal, sections_of, summary
+from texts import COMMANDS, EVENTS, FAULT_WORDS, LARGE_VERSION, MOST_BYTES, VERSION, BadText, journal_fault, number, script_fault
 
 SECONDS = 600 if os.environ.get("EMULATED") == "1" else 60
 """A run that takes longer counts as different. Under an emulator the start of 63 threads can take half a minute on a loaded machine."""
@@ -53,15 +55,17 @@ class Probe:
     words: tuple[Word, ...]
     text: bytes
     wanted: Ended
+    program: str = "thpsplit"
 
 
 class Case:
-    """A random case: its runs of the program, and what it covers."""
+    """A random case, perhaps of one kind only: its runs of the program, and what it covers."""
 
-    def __init__(self, seed: int, place: int) -> None:
-        self.chance = Random(f"{seed} {place}")
+    def __init__(self, seed: int, place: int, has_checker: bool, only: Optional[str]) -> None:
+        self.chance, self.place, self.has_checker = Random(f"{seed} {place}"), place, has_checker
         self.covered: Counter[tuple[str, str]] = Counter()
-        kind = KIND_OF[place % len(KIND_OF)] if (place + 1) % 500 else "a count at its limit"
+        kinds = KIND_OF if has_checker else [kind for kind in KIND_OF if kind != LARGE_KIND]
+        kind = only or (kinds[place % len(kinds)] if (place + 1) % 500 else "a count at its limit")
         self.cover("kinds of cases", kind)
         self.probes = list(KINDS[kind](self))
 
@@ -109,20 +113,49 @@ def cover_run(case: Case, script: Script, journal: list[str]) -> None:
     case.cover("versions of journals", journal[0][-1])
 
 
-def checked(case: Case, name: str, text: bytes) -> Probe:
-    """A journal for the check: its first error, otherwise its first illegal line, otherwise that it is legal."""
-    case.cover("options", "--check")
-    fault = journal_fault(text)
+def checked(case: Case, name: str, text: bytes, newest: int = VERSION) -> Probe:
+    """A journal for the check: its first error, otherwise its first illegal line, otherwise that it is legal. `newest`: the newest version
+    that the program reads, which is `thpcheck` where that is 4."""
+    program, words = ("thpsplit", ("--check",)) if newest == VERSION else ("thpcheck", ())
+    for word in words:
+        case.cover("options", word)
+    fault = journal_fault(text, newest)
     if fault is not None:
         case.cover("faults of journals", fault.word)
-        return Probe(name, ("--check",), text, Ended(2, b"", fault.message()))
+        return Probe(name, words, text, Ended(2, b"", fault.message(program)), program)
     line = first_illegal(text.decode().split("\n")[:-1])
     if line is None:
         case.cover("verdicts", "legal")
-        return Probe(name, ("--check",), text, Ended(0, b"legal\n"))
+        return Probe(name, words, text, Ended(0, b"legal\n"), program)
     case.cover("verdicts", "illegal")
     case.cover("illegal events", text.split(b"\n")[line - 1].decode().split(" ")[1])
-    return Probe(name, ("--check",), text, Ended(1, f"illegal line {line}\n".encode()))
+    return Probe(name, words, text, Ended(1, f"illegal line {line}\n".encode()), program)
+
+
+def large_journals(case: Case) -> Iterator[Probe]:
+    """A journal of version 4, and changes of it: the verdict and the totals of `thpcheck`; in version 3, if it is within that one's limits,
+    the same verdict, also of `thpsplit`, which refuses version 4. And texts at the limits of versions."""
+    chance = case.chance
+    kind = "every node" if (case.place + 1) % 1000 == 0 else chance.choice(LARGE_KINDS)
+    lines, numbering = random_journals.random_large(chance, kind)
+    case.cover("journals of version 4", kind)
+    case.cover("callers of version 4", numbering)
+    text = joined(lines)
+    verdict = checked(case, "large", text, LARGE_VERSION)
+    totals = Ended(verdict.wanted.status, verdict.wanted.output + joined(summary(lines)))
+    yield from (verdict, Probe("totals", ("--summary",), text, totals, "thpcheck"))
+    if random_journals.is_small(lines):
+        case.cover("journals of version 4", "also of version 3")
+        former = joined(random_journals.as_version(lines, VERSION))
+        yield Probe("as-3", (), former, verdict.wanted, "thpcheck")
+        yield checked(case, "as-3-by-thpsplit", former)
+    if len(text) <= MOST_BYTES:
+        yield checked(case, "by-thpsplit", text)
+    yield checked(case, "changed", joined(random_texts.changed_journal(chance, lines)), LARGE_VERSION)
+    yield checked(case, "spoilt", random_texts.spoilt(chance, text, EVENTS), LARGE_VERSION)
+    name, at_limit = chance.choice([*random_journals.limit_texts()])
+    case.cover("limits of versions", name)
+    yield checked(case, "limit", joined(at_limit), LARGE_VERSION)
 
 
 def one_worker(case: Case) -> Iterator[Probe]:
@@ -222,16 +255,19 @@ KINDS: dict[str, Callable[[Case], Iterator[Probe]]] = {
     "words": command_lines,
     "lists": lists,
     "a count at its limit": limit,
+    "journals of version 4": large_journals,
 }
+LARGE_KIND = "journals of version 4"
+LARGE_KINDS = ("few",) * 30 + ("many callers", "many pages", "many nodes")
 KIND_OF = ("one worker", "workers on nodes of their own", "spoilt scripts", "one worker", "spoilt journals",
-           "one worker", "workers on nodes of their own", "words", "one worker", "lists")
-"""The kinds of cases, in turn; each 500th case is another."""
+           "one worker", "workers on nodes of their own", "words", "one worker", "lists", LARGE_KIND)
+"""The kinds of cases, in turn; each 500th case is another. The last needs `thpcheck`."""
 
 ANSWERS = (
     "page", "ok", "stays", "queued", "freed", "count", "taken", "split", "pinned", "used", "done", "no-batch", "back",
 )
 TO_COVER: dict[str, tuple[str, ...]] = {
-    "kinds of cases": tuple(KINDS),
+    "kinds of cases": tuple(kind for kind in KINDS if kind != LARGE_KIND),
     "commands": COMMANDS,
     "answers": ANSWERS,
     "refusals": REFUSALS,
@@ -251,6 +287,13 @@ TO_COVER: dict[str, tuple[str, ...]] = {
     "lists": ("fit", "thpsplit: bad orders", "thpsplit: bad underused"),
 }
 """What is to be covered. Texts that are too long are left to tests/outside.py."""
+
+TO_COVER_LARGE: dict[str, tuple[str, ...]] = {
+    "journals of version 4": (*dict.fromkeys(LARGE_KINDS), "also of version 3"),
+    "callers of version 4": ("dense", "sparse"),
+    "limits of versions": tuple(name for name, _ in random_journals.limit_texts()),
+}
+"""What is to be covered by journals of version 4."""
 
 
 def help_is_whole(program: Path) -> list[str]:
@@ -284,16 +327,16 @@ class Outcome:
         self.covered.update(other.covered)
 
 
-def try_cases(asked: tuple[Path, int, range]) -> Outcome:
-    """Makes some cases, and runs the program on each of their texts."""
-    program, seed, places = asked
+def try_cases(asked: tuple[Path, int, range, Optional[str]]) -> Outcome:
+    """Makes some cases, and runs the programs in a folder on each of their texts."""
+    folder, seed, places, only = asked
     outcome = Outcome(len(places))
     for place in places:
-        case = Case(seed, place)
+        case = Case(seed, place, (folder / "thpcheck").exists(), only)
         outcome.covered.update(case.covered)
         for probe in case.probes:
             outcome.compared += 1
-            ended = run(program, probe)
+            ended = run(folder / probe.program, probe)
             if ended != probe.wanted:
                 outcome.differing.append((f"{seed}-{place}-{probe.name}", probe, ended))
     return outcome
@@ -321,10 +364,10 @@ def keep(folder: Path, probe: Probe, ended: Ended) -> None:
     print(f"differs: {folder}: {ended.differs_from(probe.wanted)}", file=sys.stderr, flush=True)
 
 
-def report_covered(covered: Counter[tuple[str, str]]) -> list[str]:
+def report_covered(covered: Counter[tuple[str, str]], to_cover: dict[str, tuple[str, ...]]) -> list[str]:
     """Prints what was covered, by kind, and returns what was not."""
     never: list[str] = []
-    for what, names in TO_COVER.items():
+    for what, names in to_cover.items():
         counts = {name: covered[what, name] for name in names}
         counts.update({name: count for (kind, name), count in sorted(covered.items()) if kind == what})
         print(f"{what}: " + ", ".join(f"{name} {count}" for name, count in counts.items()))
@@ -336,6 +379,8 @@ def arguments() -> argparse.Namespace:
     """The words of the command line."""
     parser = argparse.ArgumentParser(description="compares the built program with a plain reading of the model")
     parser.add_argument("program", type=Path)
+    parser.add_argument("--checker", type=Path, help="the built thpcheck")
+    parser.add_argument("--only", choices=[*KINDS], help="cases of this kind alone")
     parser.add_argument("--cases", type=int, default=MANY)
     parser.add_argument("--seed", type=int, default=1)
     parser.add_argument("--jobs", type=int, default=min(2, os.cpu_count() or 1), help="processes side by side")
@@ -349,11 +394,12 @@ def be_worker() -> None:
     signal.signal(signal.SIGTERM, signal.SIG_DFL)
 
 
-def try_all(asked: argparse.Namespace, program: Path) -> Outcome:
-    """Runs all cases, or those until it is interrupted or terminated; stores the first texts that differ."""
+def try_all(asked: argparse.Namespace, folder: Path) -> Outcome:
+    """Runs all cases on the programs in a folder, or those until it is interrupted or terminated; stores the first texts that differ."""
     signal.signal(signal.SIGTERM, signal.default_int_handler)
     whole = Outcome()
-    parts = [(program, asked.seed, range(at, min(at + AT_ONCE, asked.cases))) for at in range(0, asked.cases, AT_ONCE)]
+    places = [range(at, min(at + AT_ONCE, asked.cases)) for at in range(0, asked.cases, AT_ONCE)]
+    parts = [(folder, asked.seed, each, asked.only) for each in places]
     with Pool(asked.jobs, be_worker) as pool:
         try:
             for part in pool.imap(try_cases, parts):
@@ -370,15 +416,20 @@ def try_all(asked: argparse.Namespace, program: Path) -> Outcome:
 def main() -> None:
     """Compares, and prints what was covered and what differs."""
     asked = arguments()
-    if not os.access(asked.program, os.X_OK):
-        sys.exit(f"{asked.program} is no program")
+    programs = {"thpsplit": asked.program} | ({"thpcheck": asked.checker} if asked.checker else {})
+    for path in programs.values():
+        if not os.access(path, os.X_OK):
+            sys.exit(f"{path} is no program")
+    if asked.only == LARGE_KIND and not asked.checker:
+        sys.exit(f"{LARGE_KIND} need --checker")
     began = time.monotonic()
     with tempfile.TemporaryDirectory() as name:
-        program = Path(name) / "thpsplit"
-        program.symlink_to(asked.program.resolve())
-        wrong = help_is_whole(program)
-        whole = try_all(asked, program)
-    never = report_covered(whole.covered)
+        for called, path in programs.items():
+            (Path(name) / called).symlink_to(path.resolve())
+        wrong = help_is_whole(Path(name) / "thpsplit")
+        whole = try_all(asked, Path(name))
+    to_cover = TO_COVER if asked.only != LARGE_KIND else {}
+    never = report_covered(whole.covered, to_cover | TO_COVER_LARGE if asked.checker else to_cover)
     for line in wrong:
         print(line)
     if never:
@@ -386,7 +437,7 @@ def main() -> None:
     took = f"{time.monotonic() - began:.0f} s"
     differ = len(whole.differing)
     print(f"{whole.cases} cases of seed {asked.seed}, {whole.compared} texts compared, {differ} differ, {took}")
-    is_whole = whole.cases == asked.cases and not (never and asked.cases >= MANY)
+    is_whole = whole.cases == asked.cases and not (never and asked.cases >= MANY and asked.only in (None, LARGE_KIND))
     sys.exit(0 if is_whole and not differ and not wrong else 1)
 
 

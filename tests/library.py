@@ -238,9 +238,10 @@ def limits_differ(page: str) -> list[str]:
     sources = [ROOT / "crates" / name for name in ("thp_history/src/limits.rt", "thp_history/src/shape.rt", "thp_script/src/limits.rt")]
     consts = re.findall(r"pub const (\w+): \w+ = ([\d_]+);", "".join(path.read_text() for path in sources))
     limits = {name.replace("INPUT", "TEXT"): int(number) for name, number in consts}
+    limits |= {"MAX_BLOCKS": limits["MAX_NODE_BLOCKS"], "MAX_CELL_CALLERS": limits["MAX_NODE_CALLERS"]}
     defined = re.findall(r"#define THP_(M(?:AX|IN)_\w+) (\d+)", (C / "thp.h").read_text())
     wrong = [name for name, number in defined if limits.get(name) != int(number) or f'.BR THP_{name} " {number}"' not in page]
-    return wrong if len(defined) == 6 else ["not six limits"]
+    return wrong if len(defined) == 7 else ["not seven limits"]
 
 
 def version() -> str:

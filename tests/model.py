@@ -7,8 +7,9 @@ could have recorded at that place raises `Misfit`. The shrinker's calls are impl
 
 from __future__ import annotations
 
-from collections import Counter
-from typing import Iterable, Optional, Union
+from collections import Counter, OrderedDict
+from functools import lru_cache
+from typing import Iterable, Optional, Sequence, Union
 
 MOST = 65_535
 """The greatest map count of a subpage, and the greatest number of pins."""
@@ -18,6 +19,12 @@ REFUSALS = (
     "has-batch",
 )
 """The words of all refusals."""
+
+
+Pages = OrderedDict[int, None]
+"""Pages by number, in order. A step from either end, or the removal of a page, takes the same time for any number of pages."""
+
+NOTHING: Pages = OrderedDict()
 
 
 class Refused(Exception):
@@ -39,13 +46,30 @@ def set_text(subpages: Iterable[int]) -> str:
     return ",".join(str(a) if a == b else f"{a}-{b}" for a, b in runs) or "-"
 
 
+@lru_cache(maxsize=None)
+def no_counts(size: int) -> Sequence[int]:
+    """The own map counts of a new page; pages share them until they change."""
+    return (0,) * size
+
+
 class Page:
-    """A live page: map counts (of the whole, and of each subpage its own), pins, and which subpages are zero-filled."""
+    """A live page: map counts (of the whole, and of each subpage its own), pins, which subpages aren't zero-filled, and where it is: in
+    the queue, or in the batch of the caller that took it."""
+
+    __slots__ = ("whole", "own", "pins", "is_split", "is_partly", "written", "is_queued", "taker")
 
     def __init__(self, size: int) -> None:
-        self.whole, self.own, self.pins = 1, [0] * size, 0
-        self.is_split = self.is_partly = False
-        self.zero = set(range(size))
+        self.whole, self.own, self.pins = 1, no_counts(size), 0
+        self.is_split = self.is_partly = self.is_queued = False
+        self.written: set[int] = set()
+        self.taker: Optional[int] = None
+
+    def add(self, subpages: Iterable[int], count: int) -> None:
+        """Adds to the own map counts of subpages."""
+        own = list(self.own)
+        for i in subpages:
+            own[i] += count
+        self.own = own
 
     def total(self, i: int) -> int:
         """The map count of a subpage."""
@@ -59,15 +83,16 @@ class Page:
 
 
 class Node:
-    """A memory node: its live pages by number, its queue, and the batch of each caller (pages by number, in order)."""
+    """A memory node: its live pages by number, its queue, and the batch of each caller that has one. Time and memory are those of the pages
+    and batches of the moment, and of the journal."""
 
     def __init__(self, blocks: int, order: int = 9, underused: Optional[int] = None) -> None:
         self.blocks, self.order, self.underused = blocks, order, underused
         self.size = 2**order
         self.live: dict[int, Page] = {}
         self.allocated = self.given = 0
-        self.queue: list[int] = []
-        self.flights: dict[int, list[int]] = {}
+        self.queue: Pages = OrderedDict()
+        self.flights: dict[int, Pages] = {}
         self.closed = False
         self.counters: Counter[str] = Counter()
         self.journal: list[str] = []
@@ -79,19 +104,34 @@ class Node:
         """The frames that a page holds."""
         if not page.is_split:
             return set(range(self.size))
-        return page.used() - page.zero if self.underused is not None else page.used()
+        return page.used() & page.written if self.underused is not None else page.used()
 
     def frames_held(self) -> int:
         """The number of frames that the live pages hold."""
         return sum(len(self.held(page)) for page in self.live.values())
 
-    def flight(self, caller: int) -> list[int]:
+    def flight(self, caller: int) -> Pages:
         """The batch of a caller."""
-        return self.flights.setdefault(caller, [])
+        return self.flights.get(caller, NOTHING)
+
+    def enqueue(self, number: int) -> None:
+        """Appends a page to the queue."""
+        self.queue[number], self.live[number].is_queued = None, True
+
+    def leave(self, number: int) -> None:
+        """Removes a page from the queue, or from the batch that it is in."""
+        page = self.live[number]
+        if page.is_queued:
+            del self.queue[number]
+        elif page.taker is not None:
+            del self.flights[page.taker][number]
+            if not self.flights[page.taker]:
+                del self.flights[page.taker]
+        page.is_queued, page.taker = False, None
 
     def worth_splitting(self, page: Page) -> bool:
         """Whether the shrinker splits a page, unless it is pinned."""
-        return page.is_partly or (self.underused is not None and len(page.zero) > self.underused)
+        return page.is_partly or (self.underused is not None and self.size - len(page.written) > self.underused)
 
     def record(self, caller: int, *words: Union[int, str]) -> None:
         """Appends an event to the journal."""
@@ -124,7 +164,7 @@ class Node:
         number, self.allocated = self.allocated, self.allocated + 1
         self.live[number] = Page(self.size)
         if self.underused is not None:
-            self.queue.append(number)
+            self.enqueue(number)
         self.record(caller, "alloc", number)
         return f"page {number}"
 
@@ -145,8 +185,7 @@ class Node:
             raise Refused("gone")
         if any(page.total(i) == MOST for i in subpages):
             raise Refused("too-many")
-        for i in subpages:
-            page.own[i] += 1
+        page.add(subpages, 1)
         self.record(caller, "mapsub", number, first, count)
         return "ok"
 
@@ -177,7 +216,7 @@ class Node:
         self.page(number, whole=True)
         if any(page.total(i) == 0 for i in subpages):
             raise Refused("not-mapped")
-        page.zero = page.zero | set(subpages) if zero else page.zero - set(subpages)
+        page.written = page.written - set(subpages) if zero else page.written | set(subpages)
         self.record(caller, "zero" if zero else "write", number, first, count)
         return "ok"
 
@@ -197,8 +236,7 @@ class Node:
         if any(page.own[i] == 0 for i in subpages):
             raise Refused("not-mapped")
         held, used = self.held(page), page.used()
-        for i in subpages:
-            page.own[i] -= 1
+        page.add(subpages, -1)
         return self.lost(caller, number, held, used, "unmapsub", number, first, count)
 
     def unpin(self, caller: int, number: int) -> str:
@@ -212,19 +250,17 @@ class Node:
     def lost(self, caller: int, number: int, held: set[int], used: set[int], *words: Union[int, str]) -> str:
         """The outcome of an unmap or unpin after its change of counts, and the frames given back."""
         page, left = self.live[number], self.live[number].used()
-        stands = number in self.queue or any(number in flight for flight in self.flights.values())
         page.is_partly |= bool(left) and left < used
         if not left and page.pins == 0:
             outcome, after = "freed", set()
+            self.leave(number)
             del self.live[number]
-            for pages in (self.queue, *self.flights.values()):
-                if number in pages:
-                    pages.remove(number)
         else:
             outcome, after = "stays", self.held(page)
-            if left and left < used and not (page.is_split or self.closed or stands):
+            is_listed = page.is_queued or page.taker is not None
+            if left and left < used and not (page.is_split or self.closed or is_listed):
                 outcome = "queued"
-                self.queue.append(number)
+                self.enqueue(number)
                 self.counters["thp_deferred_split_page"] += 1
         self.given += len(held - after)
         answer = f"{outcome} {set_text(held - after)}"
@@ -245,9 +281,12 @@ class Node:
         """Takes the oldest page of the queue into the caller's batch."""
         if not self.queue or (self.flight(caller) and self.taker != caller):
             raise Misfit
-        self.flight(caller).append(self.queue.pop(0))
-        self.record(caller, "taken", self.flight(caller)[-1])
-        return self.flight(caller)[-1]
+        number = next(iter(self.queue))
+        self.leave(number)
+        self.live[number].taker = caller
+        self.flights.setdefault(caller, OrderedDict())[number] = None
+        self.record(caller, "taken", number)
+        return number
 
     def tried(self, caller: int, number: int) -> str:
         """Splits a page of the flight, finds it pinned, or finds it in use."""
@@ -255,7 +294,7 @@ class Node:
             raise Misfit
         page = self.live[number]
         if not self.worth_splitting(page):
-            self.flight(caller).remove(number)
+            self.leave(number)
             self.record(caller, "used", number)
             return "used"
         if page.pins:
@@ -269,7 +308,7 @@ class Node:
         page.own, page.whole, page.is_split = [page.total(i) for i in range(self.size)], 0, True
         released = held - self.held(page)
         self.given += len(released)
-        self.flight(caller).remove(number)
+        self.leave(number)
         self.record(caller, "split", number, set_text(released))
         return "split"
 
@@ -277,10 +316,11 @@ class Node:
         """Puts the first page of the flight back, or drops it."""
         if not self.flight(caller):
             raise Misfit
-        number = self.flight(caller).pop(0)
+        number = next(iter(self.flight(caller)))
+        self.leave(number)
         back = not self.closed and self.live[number].is_partly
         if back:
-            self.queue.append(number)
+            self.enqueue(number)
         self.record(caller, "back" if back else "dropped", number)
         return "back" if back else "dropped"
 

@@ -22,7 +22,7 @@ import usage
 import wrong_programs
 from process import Call, Ended, ReadTooEarly, Sink, Source, Word, run
 from tally import Tally
-from texts import FAULT_WORDS, MOST_BYTES, Fault, journal_fault, script_fault
+from texts import FAULT_WORDS, LARGE_VERSION, MOST_BYTES, Fault, journal_fault, script_fault
 
 ROOT = Path(__file__).resolve().parent.parent
 STORED = Path(__file__).resolve().parent / "stored"
@@ -213,7 +213,7 @@ def script_faults() -> Iterator[Row]:
 
 def journal_faults() -> Iterator[Row]:
     """Each error of a journal; and a journal is not a script."""
-    for text, line, word in faulty_texts.JOURNALS:
+    for text, line, word in faulty_texts.JOURNALS + faulty_texts.SMALL_JOURNALS:
         yield fault_row("journals at fault", "--check", text, line, word)
     yield fault_row("journals at fault", "", LEGAL, 1, "bad-word")
     yield fault_row("journals at fault", "", ILLEGAL, 1, "bad-word")
@@ -318,9 +318,10 @@ def own_texts_agree() -> Optional[str]:
     for text, line, word in faulty_texts.SCRIPTS:
         if script_fault(text) != Fault(line, word):
             return f"{text!r}: {script_fault(text)}"
-    for text, line, word in faulty_texts.JOURNALS:
-        if journal_fault(text) != Fault(line, word):
-            return f"{text!r}: {journal_fault(text)}"
+    for newest, others in ((LARGE_VERSION - 1, faulty_texts.SMALL_JOURNALS), (LARGE_VERSION, faulty_texts.LARGE_JOURNALS)):
+        for text, line, word in faulty_texts.JOURNALS + others:
+            if journal_fault(text, newest) != Fault(line, word):
+                return f"{text!r}: {journal_fault(text, newest)}"
     met = {word for _, _, word in [*faulty_texts.SCRIPTS, *faulty_texts.JOURNALS]} | {"too-long"}
     lacks = sorted(set(FAULT_WORDS) - met)
     return f"no text has {', '.join(lacks)}" if lacks else None

@@ -6,6 +6,7 @@ from collections import Counter
 from typing import Callable, Iterable, Optional
 
 from model import Misfit, Node, Refused
+from texts import LARGE_VERSION, SMALL
 
 Shape = tuple[int, int, Optional[int]]
 """A node's blocks, the order of its pages, and its threshold for underused pages, if it splits those."""
@@ -104,19 +105,29 @@ class Run:
 
     def journal(self) -> list[str]:
         """The journal's text, in the lowest version that suffices for it."""
-        filled = any(line.split()[1] in ("write", "zero") for node in self.nodes for line in node.journal)
-        version = 1
-        if any(node.order != 9 for node in self.nodes):
-            version = 2
-        if filled or any(node.underused is not None for node in self.nodes):
-            version = 3
-        lines = [f"thp-journal {version}"]
-        for number, node in enumerate(self.nodes):
-            order = f" order {node.order}" if version > 1 else ""
-            switch = "off" if node.underused is None else node.underused
-            lines.append(f"node {number} blocks {node.blocks}{order}" + (f" underused {switch}" if version > 2 else ""))
-            lines += node.journal
-        return [*lines, "end"]
+        return journal_lines(self.nodes)
+
+
+def journal_lines(nodes: list[Node]) -> list[str]:
+    """The journal of some nodes, in the lowest version that suffices for it."""
+    version = least_version(nodes)
+    lines = [f"thp-journal {version}"]
+    for number, node in enumerate(nodes):
+        order = f" order {node.order}" if version > 1 else ""
+        switch = "off" if node.underused is None else node.underused
+        lines.append(f"node {number} blocks {node.blocks}{order}" + (f" underused {switch}" if version > 2 else ""))
+        lines += node.journal
+    return [*lines, "end"]
+
+
+def least_version(nodes: list[Node]) -> int:
+    """The lowest version in which the journal of some nodes can be written."""
+    heads = [line.split(" ", 2)[:2] for node in nodes for line in node.journal]
+    if len(nodes) - 1 > SMALL.node or any(node.blocks > SMALL.blocks for node in nodes) or any(int(it[0]) > SMALL.caller for it in heads):
+        return LARGE_VERSION
+    if any(word in ("write", "zero") for _, word in heads) or any(node.underused is not None for node in nodes):
+        return 3
+    return 2 if any(node.order != 9 for node in nodes) else 1
 
 
 def sections_of(text: str) -> list[tuple[int, list[str]]]:
@@ -146,19 +157,26 @@ def first_illegal(lines: Iterable[str]) -> Optional[int]:
 
 def summary(lines: Iterable[str]) -> list[str]:
     """The totals of each node of a journal text without errors, up to the node's first illegal line."""
-    reported: list[list[str]] = []
-    node: Optional[Node] = None
+    nodes: list[tuple[list[str], list[str]]] = []
     for line in lines:
         words = line.split()
         if words[0] == "node":
-            node = node_of(words)
-            reported.append(node.totals(len(reported)))
-        elif words[0] not in ("thp-journal", "end") and node is not None:
-            if fits(node, line):
-                reported[-1] = node.totals(len(reported) - 1)
-            else:
-                node = None
-    return [line for totals in reported for line in totals]
+            nodes.append((words, []))
+        elif words[0] not in ("thp-journal", "end"):
+            nodes[-1][1].append(line)
+    return [line for number, (words, events) in enumerate(nodes) for line in totals_of(number, words, events)]
+
+
+def totals_of(number: int, words: list[str], events: list[str]) -> list[str]:
+    """The totals of a node after its events before the first illegal one, which may leave any."""
+    node, legal = node_of(words), 0
+    while legal < len(events) and fits(node, events[legal]):
+        legal += 1
+    if legal < len(events):
+        node = node_of(words)
+        for line in events[:legal]:
+            fits(node, line)
+    return node.totals(number)
 
 
 def node_of(words: list[str]) -> Node:
@@ -170,14 +188,14 @@ def node_of(words: list[str]) -> Node:
 
 
 def fits(node: Node, line: str) -> bool:
-    """Whether the event in a line fits those before it on the node, to which it is applied. If it does not, the node is no longer
-    usable."""
+    """Whether the event in a line fits those before it on the node, to which it is applied, and which doesn't keep it. If it does not, the
+    node is no longer usable."""
     words = line.split()
     try:
         replay(node, int(words[0]), words[1], [int(word) for word in words[2:] if word.isdigit()])
     except (Refused, Misfit):
         return False
-    return node.journal[-1] == line
+    return node.journal.pop() == line
 
 
 def replay(node: Node, caller: int, word: str, numbers: list[int]) -> None:

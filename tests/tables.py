@@ -92,9 +92,9 @@ def stage(node: Node, number: int) -> str:
     page = node.live[number]
     if page.is_split:
         return "split"
-    if any(number in flight for flight in node.flights.values()):
+    if page.taker is not None:
         return "in-batch"
-    if number in node.queue:
+    if page.is_queued:
         return "queued"
     return "partly-mapped" if page.is_partly else "allocated"
 
@@ -219,7 +219,7 @@ def one_event(chance: Random, node: Node) -> None:
         node.taken(caller)
     elif flights and kind < 23:
         caller = chance.choice(flights)
-        node.tried(caller, chance.choice(node.flights[caller]))
+        node.tried(caller, chance.choice([*node.flights[caller]]))
     elif flights:
         node.returned(chance.choice(flights))
     elif chance.random() < 0.02:

@@ -15,8 +15,9 @@ MOST_BYTES = 16_777_216
 MOST_NUMBER = 2**64 - 1
 MOST_SUBPAGE = 65_535
 MOST_BATCH = 128
-MOST_CALLER = 63
 LAST_FRAME = 511
+VERSION, LARGE_VERSION = 3, 4
+"""The newest version of a journal of at most so many bytes, and of one of any length, which `thpcheck` reads."""
 
 FAULT_WORDS = ("too-long", "bad-byte", "cut", "bad-word", "bad-count", "bad-number", "bad-set", "bad-order")
 """All kinds of error. For one line the first that applies is reported."""
@@ -32,13 +33,30 @@ PAGE_EVENTS = ("alloc", "mapwhole", "splitpmd", "pin", "taken", "pinned", "back"
 LOSS_EVENTS = ("unmapwhole", "unpin")
 LATER_EVENTS = ("write", "zero", "used")
 EVENTS = (*PAGE_EVENTS, *LOSS_EVENTS, "mapsub", "unmapsub", "split", "close", *LATER_EVENTS)
-"""All events of journals; the last three occur in version 3 only."""
+"""All events of journals; the last three occur from version 3 on."""
 
 OUTCOMES = ("stays", "queued", "freed")
 NUMBER = re.compile(rb"0|[1-9][0-9]{0,19}")
 """A number as it is written; no longer one is within bounds."""
 
 PRINTABLE = re.compile(rb"[ -~]*")
+
+
+@dataclass(frozen=True)
+class Limits:
+    """The greatest number of a node in a journal, of its blocks, and of a caller."""
+
+    node: int
+    blocks: int
+    caller: int
+
+
+SMALL, LARGE = Limits(7, 4_096, 63), Limits(65_535, 16_777_216, 65_535)
+
+
+def limits_of(version: int) -> Limits:
+    """The limits of a version; 0: of lines before the first."""
+    return LARGE if version == LARGE_VERSION else SMALL
 
 
 class BadText(Exception):
@@ -52,16 +70,17 @@ class Fault:
     line: int
     word: str
 
-    def message(self) -> bytes:
+    def message(self, program: str = "thpsplit") -> bytes:
         """The line about it on standard error."""
-        return f"thpsplit: line {self.line}: {self.word}\n".encode()
+        return f"{program}: line {self.line}: {self.word}\n".encode()
 
 
 @dataclass
 class Place:
-    """The position of the next line: in a script, its section; in a journal, after the version and so many nodes."""
+    """The position of the next line: in a script, its section; in a journal, of a version up to `newest`, after that and so many nodes."""
 
     section: Optional[int] = None
+    newest: int = VERSION
     version: int = 0
     nodes: int = 0
     ended: bool = False
@@ -106,8 +125,8 @@ def words_in(line: bytes) -> list[bytes]:
 
 
 def first_fault(text: bytes, line_in: Callable[[Place, bytes], None], place: Place) -> Optional[Fault]:
-    """The first error of the lines of a text, of the text after the last line feed, and of the text's length."""
-    if len(text) > MOST_BYTES:
+    """The first error of the lines of a text, of the text after the last line feed, and of the text's length, unless it may have any."""
+    if len(text) > MOST_BYTES and place.newest == VERSION:
         return Fault(0, "too-long")
     *lines, behind = text.split(b"\n")
     for count, line in enumerate(lines, 1):
@@ -152,9 +171,9 @@ def bounds_of(word: str, nodes: int) -> tuple[int, ...]:
     return (nodes - 1, MOST_BATCH) if word in BATCH_WORDS else (nodes - 1,)
 
 
-def journal_fault(text: bytes) -> Optional[Fault]:
-    """The first error of a journal. One that is not ended is cut after its last line."""
-    place = Place()
+def journal_fault(text: bytes, newest: int = VERSION) -> Optional[Fault]:
+    """The first error of a journal, by what reads versions up to `newest`. One that is not ended is cut after its last line."""
+    place = Place(newest=newest)
     fault = first_fault(text, journal_line, place)
     if fault is None and not place.ended:
         return Fault(text.count(b"\n") + 1, "cut")
@@ -166,9 +185,9 @@ def journal_line(place: Place, line: bytes) -> None:
     word, *others = words_in(line)
     if word == b"thp-journal":
         ensure(len(others) == 1, "bad-count")
-        ensure(others[0] in (b"1", b"2", b"3"), "bad-number")
+        version = number(others[0], place.newest, 1)
         ensure(place.version == 0, "bad-order")
-        place.version = int(others[0])
+        place.version = version
     elif word == b"node":
         node_line(place, others)
     elif word == b"end":
@@ -182,12 +201,12 @@ def journal_line(place: Place, line: bytes) -> None:
 
 def node_line(place: Place, words: list[bytes]) -> None:
     """`node N blocks B`, and what further versions add."""
-    keys = [b"blocks", b"order", b"underused"][: max(place.version, 1)]
+    keys, limits = [b"blocks", b"order", b"underused"][: max(place.version, 1)], limits_of(place.version)
     for at, key in enumerate(keys):
         ensure(words[2 * at + 1 : 2 * at + 2] == [key], "bad-word")
     ensure(len(words) == 2 * len(keys) + 1, "bad-count")
-    count = number(words[0], 7)
-    number(words[2], 4096, 1)
+    count = number(words[0], limits.node)
+    number(words[2], limits.blocks, 1)
     order = number(words[4], 9, 2) if len(keys) > 1 else 9
     if len(keys) > 2 and words[6] != b"off":
         number(words[6], 2**order - 1)
@@ -199,7 +218,7 @@ def event_line(place: Place, caller: bytes, words: list[bytes]) -> None:
     """A caller, the word of an event, and its operands."""
     ensure(bool(words), "bad-word")
     event, operands = words[0].decode(), words[1:]
-    ensure(event in EVENTS and (event not in LATER_EVENTS or place.version == 3), "bad-word")
+    ensure(event in EVENTS and (event not in LATER_EVENTS or place.version > 2), "bad-word")
     numbers = {"mapsub": 3, "unmapsub": 3, "write": 3, "zero": 3, "close": 0}.get(event, 1)
     loses = event in LOSS_EVENTS or event == "unmapsub"
     if loses:
@@ -207,7 +226,7 @@ def event_line(place: Place, caller: bytes, words: list[bytes]) -> None:
         ensure(operands[numbers].decode() in OUTCOMES, "bad-word")
     more = 2 if loses else 1 if event == "split" else 0
     ensure(len(operands) == numbers + more, "bad-count")
-    number(caller, MOST_CALLER)
+    number(caller, limits_of(place.version).caller)
     check_numbers(operands[:numbers], (MOST_NUMBER, MOST_SUBPAGE, MOST_SUBPAGE)[:numbers])
     if more:
         check_set(operands[-1])

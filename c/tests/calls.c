@@ -49,7 +49,7 @@ static void made_and_given_back(void) {
     thp_node node = EMPTY;
     ANSWERS(thp_node_create(NULL, 16, 9, THP_UNDERUSED_OFF), THP_NULL);
     ANSWERS(thp_node_create(&node, 0, 9, THP_UNDERUSED_OFF), THP_BAD_SIZE);
-    ANSWERS(thp_node_create(&node, 4097, 9, THP_UNDERUSED_OFF), THP_BAD_SIZE);
+    ANSWERS(thp_node_create(&node, THP_MAX_BLOCKS + 1, 9, THP_UNDERUSED_OFF), THP_BAD_SIZE);
     ANSWERS(thp_node_create(&node, 1, 1, THP_UNDERUSED_OFF), THP_BAD_SIZE);
     ANSWERS(thp_node_create(&node, 1, 10, THP_UNDERUSED_OFF), THP_BAD_SIZE);
     ANSWERS(thp_node_create(&node, 1, 2, 4), THP_BAD_SIZE);

@@ -106,7 +106,7 @@ static void refused(void) {
     thp_node node = NO_NODE;
     ANSWERS(thp_cell_create(&pass, 0, 2, THP_UNDERUSED_OFF, 2), THP_BAD_SIZE);
     ANSWERS(thp_cell_create(&pass, 1, 2, THP_UNDERUSED_OFF, 0), THP_BAD_SIZE);
-    ANSWERS(thp_cell_create(&pass, 1, 2, THP_UNDERUSED_OFF, 65), THP_BAD_SIZE);
+    ANSWERS(thp_cell_create(&pass, 1, 2, THP_UNDERUSED_OFF, THP_MAX_CELL_CALLERS + 1), THP_BAD_SIZE);
     ANSWERS(thp_cell_create(&pass, 1, 2, THP_UNDERUSED_OFF, 64), THP_OK);
     ANSWERS(thp_cell_create(&pass, 1, 2, THP_UNDERUSED_OFF, 64), THP_IN_USE);
     ANSWERS(thp_pass_split(&pass, 0, &other), THP_BAD_CALLER);
@@ -143,7 +143,7 @@ static void counting(void) {
     uint64_t page;
     size_t size = 7;
     ANSWERS(thp_cell_create_counting(NULL, 2, 2, 1, 2), THP_NULL);
-    ANSWERS(thp_cell_create_counting(&counted, 2, 2, 1, 65), THP_BAD_SIZE);
+    ANSWERS(thp_cell_create_counting(&counted, 2, 2, 1, THP_MAX_CELL_CALLERS + 1), THP_BAD_SIZE);
     ANSWERS(thp_cell_create_counting(&counted, 2, 2, 1, 2), THP_OK);
     ANSWERS(thp_pass_split(&counted, 1, &other), THP_OK);
     ANSWERS(thp_pass_split(&kept, 1, &kept_other), THP_OK);

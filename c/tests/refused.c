@@ -156,9 +156,9 @@ static size_t memory_of(uint32_t count_of_blocks, uint32_t events, size_t *of_ev
 static void figures(void) {
     size_t of_events, of_none;
     const size_t least = memory_of(1, 100000, &of_events);
-    const size_t most = memory_of(THP_MAX_BLOCKS, 0, &of_none);
-    const size_t block = (most - least) / (THP_MAX_BLOCKS - 1);
-    WANT(least > 95000 && least < 105000);
+    const size_t most = memory_of(4096, 0, &of_none);
+    const size_t block = (most - least) / 4095;
+    WANT(least > 95000 && least < 110000);
     WANT(block > 1150 && block < 1250);
     WANT(of_events == 96 * 100000 && of_none == 0);
 }

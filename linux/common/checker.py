@@ -1,5 +1,4 @@
-"""Checks of journals: by `thpcheck`, which takes any length and may explain, or where there is none by
-`thpsplit --check`."""
+"""Checks of journals: by `thpcheck`, which takes any length and may explain, or where there is none by `thpsplit --check`."""
 
 from __future__ import annotations
 

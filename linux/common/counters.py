@@ -1,8 +1,7 @@
 """The kernel's statistics of huge pages: /proc/vmstat, and sysfs by page size.
 
 Rules: Documentation/admin-guide/mm/transhuge.rst of the kernel. All are of the whole machine since its start, so other
-programs move them too; `CounterWatch` finds out whether they do.
-"""
+programs move them too; `CounterWatch` finds out whether they do."""
 
 from __future__ import annotations
 
@@ -73,8 +72,7 @@ class CounterWatch:
     """Whether the machine's counters stay as they are while the tool itself changes nothing.
 
     `moved` gathers the names of the counters that moved in any window. Noise that comes and goes may be missed by
-    one window: what can be decided only by a counter is safe to decide only if many windows were quiet.
-    """
+    one window: what can be decided only by a counter is safe to decide only if many windows were quiet."""
 
     def __init__(self, orders: Iterable[int], wait: Callable[[float], None] = time.sleep,
                  take: Callable[[Sequence[int]], Counts] = counts) -> None:

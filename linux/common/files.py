@@ -1,5 +1,4 @@
-"""Files: small ones of sysfs, procfs and cgroupfs, a tool's inputs and outputs, and the folders of transparent huge
-pages."""
+"""Files: small ones of sysfs, procfs and cgroupfs, a tool's inputs and outputs, and the folders of transparent huge pages."""
 
 from __future__ import annotations
 

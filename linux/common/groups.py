@@ -1,8 +1,7 @@
 """Memory control groups of a tool's own, of version 1 or 2.
 
 Rules: Documentation/admin-guide/cgroup-v1/memory.rst, freezer-subsystem.rst and cgroup-v2.rst of the kernel. Groups are made
-below the tool's own group (version 1) or below the root (version 2), and go away at the tool's end (keeper.py).
-"""
+below the tool's own group (version 1) or below the root (version 2), and go away at the tool's end (keeper.py)."""
 
 from __future__ import annotations
 
@@ -154,8 +153,7 @@ class Groups:
         """Has the kernel reclaim in a group, so that the shrinkers run over its lists.
 
         Version 1: a limit below the usage is asked for; the kernel makes one sweep down to the last priority and
-        refuses (mm/memcontrol-v1.c: mem_cgroup_resize_max). Version 2: memory.reclaim, up to 16 sweeps.
-        """
+        refuses (mm/memcontrol-v1.c: mem_cgroup_resize_max). Version 2: memory.reclaim, up to 16 sweeps."""
         with suppress(OSError):  # less could be reclaimed than was asked for: the sweep took place
             if self.version == 1:
                 write(f"{path}/memory.limit_in_bytes", BASE)

@@ -1,16 +1,14 @@
 """The guardian of a run: puts the machine back when the tool ends, however it ends.
 
 The tool stores what it changes, before it changes it, in the file `undo` of its folder, synced and whole: what can't be stored isn't
-changed. It starts this file as a process of its own session, with a pipe as standard input; `ok` comes back once guardian and
-standby run.
+changed. It starts this file as a process of its own session, with a pipe as standard input; `ok` comes back once guardian and standby run.
 
 The end is the end of that pipe: it comes also if the tool is killed. A second process of this file (the standby) puts everything
 back if the guardian is killed, and the next start of a tool if all three are. Both leave the tool's control groups: what ends or
 freezes a group reaches neither. The tool's lock is inherited, so no other tool begins before all is put back.
 
 What could not be put back is reported on standard error, with status 1; groups are tried again by the next start of a tool. Nothing
-of the package is imported, so that no error in it can keep the guardian from its work.
-"""
+of the package is imported, so that no error in it can keep the guardian from its work."""
 
 from __future__ import annotations
 
@@ -196,9 +194,8 @@ def remove_group(path: str, until: float) -> str:
 
 
 def put_back(undo: Undo) -> tuple[list[str], dict[str, int]]:
-    """Puts settings and groups back; returns what could not be put back, in words, and the groups to try again. Settings come first,
-    before anything is waited for. A setting that a group of ours holds (cgroup.subtree_control of version 2) is tried again after the
-    groups."""
+    """Puts settings and groups back; returns what could not be put back, in words, and the groups to try again. Settings come first, before
+    anything is waited for. A setting that a group of ours holds (cgroup.subtree_control of version 2) is tried again after the groups."""
     settings = dict(reversed(list(undo["settings"].items())))
     problems = {path: restore(path, texts) for path, texts in settings.items()}
     until, left, groups = time.monotonic() + PATIENCE, {}, {}

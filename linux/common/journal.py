@@ -3,9 +3,7 @@
 from __future__ import annotations
 
 import re
-from collections.abc import Iterator, Sequence
 from dataclasses import dataclass, field
-from typing import Protocol
 
 from .errors import InputFault
 from .files import PMD_ORDER
@@ -13,7 +11,7 @@ from .subpages import set_of, set_text
 
 _RANGES = ("mapsub", "unmapsub", "write", "zero")
 _OUTCOMES = ("unmapwhole", "unmapsub", "unpin")
-FILLING = ("write", "zero", "used")  # words that only version 3 has
+FILLING = ("write", "zero", "used")  # words that version 3 was the first to have
 
 
 @dataclass(frozen=True)
@@ -39,7 +37,8 @@ class Event:
 
 _WORDS = ("alloc", "splitpmd", "mapwhole", "unmapwhole", "mapsub", "unmapsub", "pin", "unpin", "write", "zero", "taken",
           "split", "pinned", "used", "back", "dropped", "close")
-_NODE = re.compile("node [0-7] blocks ([0-9]{1,4})(?: order ([2-9])(?: underused (off|[0-9]{1,3}))?)?")
+_NODE = re.compile("node [0-9]{1,5} blocks ([0-9]{1,8})(?: order ([2-9])(?: underused (off|[0-9]{1,3}))?)?")
+SMALL_NODES, SMALL_BLOCKS, SMALL_CALLERS, MOST_CALLERS = 8, 4096, 64, 1 << 16  # of versions 1 to 3; of version 4
 
 
 def event_of(line: str) -> Event:
@@ -67,48 +66,10 @@ class NodeJournal:
     events: list[Event] = field(default_factory=list)
 
 
-class Node(Protocol):
-    """What a node's journal is written from: its blocks, the order of its pages, the threshold of zero-filled subpages (None: off),
-    whether an event is one that only version 3 has, and the events' lines."""
-
-    @property
-    def blocks(self) -> int: ...
-
-    @property
-    def order(self) -> int: ...
-
-    @property
-    def underused(self) -> int | None: ...
-
-    @property
-    def fills(self) -> bool: ...
-
-    def texts(self) -> Iterator[str]: ...
-
-
-def journal_lines(nodes: Sequence[Node]) -> Iterator[str]:
-    """Yields the lines of a journal, in the lowest version that has all of its words."""
-    version = 2 if any(node.order != PMD_ORDER for node in nodes) else 1
-    if any(node.fills or node.underused is not None for node in nodes):
-        version = 3
-    yield f"thp-journal {version}"
-    for number, node in enumerate(nodes):
-        order = f" order {node.order}" if version > 1 else ""
-        switch = "off" if node.underused is None else str(node.underused)
-        yield f"node {number} blocks {node.blocks}{order}" + (f" underused {switch}" if version > 2 else "")
-        yield from node.texts()
-    yield "end"
-
-
-def journal_text(nodes: Sequence[Node]) -> str:
-    """Returns the text of a journal."""
-    return "".join(f"{line}\n" for line in journal_lines(nodes))
-
-
 def journal_of(text: str) -> list[NodeJournal]:
     """Returns the nodes of a journal's text. InputFault where it isn't one; its legality is not checked."""
     lines = text.split("\n")
-    if not re.fullmatch("thp-journal [123]", lines[0]) or lines[-2:] != ["end", ""]:
+    if not re.fullmatch("thp-journal [1-4]", lines[0]) or lines[-2:] != ["end", ""]:
         raise InputFault("this is no journal")
     nodes: list[NodeJournal] = []
     for number, line in enumerate(lines[1:-2], 2):

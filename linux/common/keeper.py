@@ -5,8 +5,7 @@
         keeper.make_group(path)              # removed, with its processes killed
 
 A guardian (guardian.py) does so at an exception, a signal and SIGKILL of the tool alike. What is to be put back is on disk before
-each change, so that if the guardian is killed too, its standby or the next start of any tool puts it back (`recover`).
-"""
+each change, so that if the guardian is killed too, its standby or the next start of any tool puts it back (`recover`)."""
 
 from __future__ import annotations
 

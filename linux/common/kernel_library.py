@@ -45,7 +45,8 @@ class Settings(ctypes.Structure):
     """struct thp_settings."""
 
     _fields_ = [*((name, ctypes.c_uint64) for name in ("group", "first_page", "scan_function", "queue_lists")),
-                ("orders", ctypes.c_uint32), ("room", ctypes.c_uint32), ("numa_node", ctypes.c_int32), ("unused", ctypes.c_uint32)]
+                ("orders", ctypes.c_uint32), ("room", ctypes.c_uint32), ("numa_node", ctypes.c_int32),
+                *((name, ctypes.c_uint32) for name in ("spaces", "blocks", "homes"))]
 
 
 class Counters(ctypes.Structure):

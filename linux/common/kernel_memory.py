@@ -1,8 +1,7 @@
 """Kernel memory read by BPF programs (linux/kernel/memory.bpf.c): control groups, deferred split queues, structures of pages.
 
 Needs BPF_SYSCALL, DEBUG_INFO_BTF, CAP_BPF and CAP_PERFMON; works where lockdown allows BPF to read (integrity). A queue is
-copied without its lock: a copy is whole where the walk ends at the queue's head, and is made again otherwise.
-"""
+copied without its lock: a copy is whole where the walk ends at the queue's head, and is made again otherwise."""
 
 from __future__ import annotations
 
@@ -16,7 +15,6 @@ from .files import BASE, read
 from .kernel_library import PageState, Request, load_library, open_programs
 
 TRIES = 20  # walks of a list that changes
-LONGEST = 1 << 20  # pages of a queue
 NUMA_NODES = "/sys/devices/system/node/has_memory"
 CHANGED = 1  # linux/kernel/shared.h: enum answer
 REASONS = {
@@ -89,10 +87,11 @@ class KernelMemory:
         return {node or 0: self._queue(group, node or 0) for node in self.numa_nodes()}
 
     def _queue(self, group: int, node: int) -> list[int]:
+        most = os.sysconf("SC_PHYS_PAGES")  # a longer walk goes round
         for _ in range(TRIES):
             request, answer = Request(group=group, numa_node=node), 0
             folios: list[int] = []
-            while answer != CHANGED and len(folios) < LONGEST:
+            while answer != CHANGED and len(folios) <= most:
                 answer = self._try("read_queue", request)
                 if answer != CHANGED:
                     self._demand(answer)

@@ -1,8 +1,7 @@
 """The kernel's files of pages: what a process maps, flags and map counts by frame, and the frames of each NUMA node.
 
 Rules: Documentation/admin-guide/mm/pagemap.rst and include/uapi/linux/kernel-page-flags.h of the kernel. All files hold
-one 64-bit number for each base page; frames are counted from 0.
-"""
+one 64-bit number for each base page; frames are counted from 0."""
 
 from __future__ import annotations
 

@@ -1,8 +1,7 @@
 """What /proc and cgroupfs report of processes, read as bytes.
 
 Names of processes, files and control groups are chosen by their users and may hold any byte. So each text is split at
-line feeds alone, a line counts by its first characters, and a name is escaped before it is used.
-"""
+line feeds alone, a line counts by its first characters, and a name is escaped before it is used."""
 
 from __future__ import annotations
 

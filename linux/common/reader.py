@@ -1,8 +1,7 @@
 """Finds the huge anonymous pages that processes map, how each subpage is mapped, and which subpages are zero-filled.
 
 Nothing is changed by it: page tables and content are read by BPF, in worker processes and threads, frames by /proc/kpageflags,
-kpagecount and kpagecgroup. second_look.py reads again what has changed meanwhile.
-"""
+kpagecount and kpagecgroup. second_look.py reads again what has changed meanwhile."""
 
 from __future__ import annotations
 

@@ -1,7 +1,6 @@
 """A script's settings and commands, as docs/FORMATS.md describes them.
 
-The settings are in the first line, `# thpsplit OPTIONS`, or in words given.
-"""
+The settings are in the first line, `# thpsplit OPTIONS`, or in words given."""
 
 from __future__ import annotations
 
@@ -83,8 +82,7 @@ class Script:
     options: Options
 
     def commands(self) -> list[Command]:
-        """Returns the commands in order. InputFault where a section has no number; `thpsplit` finds all other faults
-        of a text."""
+        """Returns the commands in order. InputFault where a section has no number; `thpsplit` finds all other faults of a text."""
         out: list[Command] = []
         section = 0
         for place, line in enumerate(text_lines(self.text), 1):

@@ -1,8 +1,7 @@
 """Reads a second time what has changed while it was read: page tables, map counts, queue state, and then content.
 
 Processes run meanwhile. Each page that was found is looked at twice, its content only of a sample and where anything else
-has changed; the second reading then counts.
-"""
+has changed; the second reading then counts."""
 
 from __future__ import annotations
 
@@ -16,7 +15,6 @@ from .workers import PIECE
 
 MOVED = "huge pages that changed while they were read"
 SAMPLE = 64  # huge pages whose content is read twice
-MOST_AGAIN = 1 << 16  # huge pages that are read a second time
 BATCH = 1024  # huge pages that are compared at a time
 Piece = Tuple[Any, ...]
 COMPARED = ("totals", "whole", "is_queued", "is_partly", "cgroup")  # by `_count`
@@ -44,7 +42,7 @@ class SecondLook:
         self._walk()
         self._count()
         changed = [reader.folios[frame] for frame in sorted(self._first) if frame in reader.folios]
-        for folio in changed[MOST_AGAIN:] + [folio for folio in changed[:MOST_AGAIN] if not reconcile(folio)]:
+        for folio in [folio for folio in changed if not reconcile(folio)]:
             self._leave_out(folio, MOVED)
         reader.read_contents([folio for folio in changed if folio.frame in self._first])
         sampled = self._sample()

@@ -1,8 +1,7 @@
 """Address spaces: which processes share one, and by which thread each is read.
 
 Processes share an address space after clone(CLONE_VM), and between vfork and exec: they have one highest page table. A process
-whose first thread has ended has no memory under /proc/PID, but under the numbers of its other threads.
-"""
+whose first thread has ended has no memory under /proc/PID, but under the numbers of its other threads."""
 
 from __future__ import annotations
 

@@ -1,8 +1,7 @@
 """Worker processes that read others, since that may wait for another process's mmap_lock: a user can hold his own for ever.
 
 A worker is a fork of the tool that runs pages.c alone. One that doesn't answer in time is killed and replaced. Readings that
-wait do so side by side, and a user whose processes make the tool wait is waited for ever more shortly.
-"""
+wait do so side by side, and a user whose processes make the tool wait is waited for ever more shortly."""
 
 from __future__ import annotations
 

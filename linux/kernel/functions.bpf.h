@@ -1,8 +1,6 @@
 /* SPDX-License-Identifier: MIT OR GPL-2.0 */
-/*
- * Records what the kernel's own functions do to the queue: programs at the entry and exit of each. They are optional: library.c leaves
- * them out where the kernel lacks such a function, or refuses to have functions traced.
- */
+/* Records what the kernel's own functions do to the queue: programs at the entry and exit of each. They are optional: library.c leaves them
+ * out where the kernel lacks such a function, or refuses to have functions traced. */
 #ifndef FUNCTIONS_BPF_H
 #define FUNCTIONS_BPF_H
 

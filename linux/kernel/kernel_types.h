@@ -1,11 +1,9 @@
 /* SPDX-License-Identifier: MIT OR GPL-2.0 */
-/*
- * The kernel's types, as far as the programs use them.
+/* The kernel's types, as far as the programs use them.
  *
- * libbpf finds each field by its name when the programs are loaded (CO-RE), so that neither the order nor the offsets of fields
- * matter here. A name after ___ is another form of the same type. The loader compares the sizes of numbers and pointers with
- * the running kernel's (library.c).
- */
+ * libbpf finds each field by its name when the programs are loaded (CO-RE), so that neither the order nor the offsets of fields matter
+ * here. A name after ___ is another form of the same type. The loader compares the sizes of numbers and pointers with the running kernel's
+ * (library.c). */
 #ifndef KERNEL_TYPES_H
 #define KERNEL_TYPES_H
 

@@ -1,9 +1,7 @@
 // SPDX-License-Identifier: MIT OR GPL-2.0
-/*
- * Loads the readers of kernel memory (memory.bpf.c), for linux/common/kernel_memory.py, and the programs of a recording
- * (record.bpf.c), whose records it moves to a file, for linux/record/recorder.py. What opens programs leaves a reason or lines of
- * what isn't followed in `problem`.
- */
+/* Loads the readers of kernel memory (memory.bpf.c), for linux/common/kernel_memory.py, and the programs of a recording (record.bpf.c),
+ * whose records it moves to a file, for linux/record/recorder.py. What opens programs leaves a reason or lines of what isn't followed in
+ * `problem`. */
 #define _GNU_SOURCE
 #include <errno.h>
 #include <stdarg.h>
@@ -56,10 +54,8 @@ static void end_messages(char *text, size_t size)
 
 /* the running kernel's types */
 
-/*
- * Returns a flag of an allocation by its bit's enumerator, whose enumeration may have no name. Kernels without it have macros, which aren't
- * among their types: `macro` is the flag's value in include/linux/gfp_types.h of Linux 6.1.
- */
+/* Returns a flag of an allocation by its bit's enumerator, whose enumeration may have no name. Kernels without it have macros, which aren't
+ * among their types: `macro` is the flag's value in include/linux/gfp_types.h of Linux 6.1. */
 static uint32_t find_flag(const struct btf *types, const char *name, uint32_t macro)
 {
 	for (uint32_t id = 1; id < btf__type_cnt(types); id++) {
@@ -190,7 +186,10 @@ static bool configure(struct record_bpf *programs, const struct thp_settings *se
 	leave_out(kernel, programs->obj, "mm_collapse_huge_page", 3, 4, "collapses");
 	leave_out(kernel, programs->obj, "remove_migration_pmd", 2, 2, "migrations");
 	leave_out(kernel, programs->obj, "remove_migration_pte", 3, 3, "migrations");
-	return !bpf_map__set_max_entries(programs->maps.ring, settings->room);
+	return !bpf_map__set_max_entries(programs->maps.ring, settings->room) &&
+	       !bpf_map__set_max_entries(programs->maps.spaces, settings->spaces) &&
+	       !bpf_map__set_max_entries(programs->maps.tracked, settings->blocks) &&
+	       !bpf_map__set_max_entries(programs->maps.homes, settings->homes);
 }
 
 /* Leaves out the programs at functions (functions.bpf.h), or fits them to the kernel. */

@@ -1,11 +1,10 @@
 // SPDX-License-Identifier: MIT OR GPL-2.0
 /*
- * Readers of kernel memory: a control group's address, deferred split queues, the structures of huge pages, page tables, zero-filled
- * base pages. linux/common/kernel_memory.py runs them.
+ * Readers of kernel memory: a control group's address, deferred split queues, the structures of huge pages, page tables, zero-filled base
+ * pages. linux/common/kernel_memory.py runs them.
  *
- * All are of type syscall: the caller runs them when it needs an answer, and they are attached to nothing. What they return is
- * in their context (struct thp_request) and in `window`. Nothing is locked, and kernel memory is only read, by a helper that
- * survives any address.
+ * All are of type syscall: the caller runs them when it needs an answer, and they are attached to nothing. What they return is in their
+ * context (struct thp_request) and in `window`. Nothing is locked, and kernel memory is only read, by a helper that survives any address.
  */
 #include "kernel_types.h"
 #include "shared.h"
@@ -211,10 +210,8 @@ static long try_base(__u32 index, struct thp_search *search)
 	return 0;
 }
 
-/*
- * Where the kernel's map of all memory begins (`at`), how many levels page tables have (`found`), and the frame of a page of ours
- * (`length`), whose address is `group` and which begins with `numa_node`.
- */
+/* Where the kernel's map of all memory begins (`at`), how many levels page tables have (`found`), and the frame of a page of ours
+ * (`length`), whose address is `group` and which begins with `numa_node`. */
 SEC("syscall")
 int find_map(struct thp_request *request)
 {
@@ -261,10 +258,8 @@ int copy_table(struct thp_request *request)
 
 /* contents: what pages contain doesn't leave the kernel */
 
-/*
- * Whether memory is all 0; -1: it can't be read. Places are read in ascending order: a look at a later one first makes the
- * processor read memory a third slower.
- */
+/* Whether memory is all 0; -1: it can't be read. Places are read in ascending order: a look at a later one first makes the processor read
+ * memory a third slower. */
 static __always_inline int is_zero(__u64 *room, int size, __u64 at)
 {
 	__u64 all = 0;

@@ -3,10 +3,8 @@
 #ifndef QUEUE_BPF_H
 #define QUEUE_BPF_H
 
-/*
- * Reads a field of kernel memory, which may be smaller in the running kernel; 0 where it can't be read: the helper clears it. Where it
- * is larger, the verifier finds a call of no function, 57005 (linux/common/kernel_library.py), and refuses the programs.
- */
+/* Reads a field of kernel memory, which may be smaller in the running kernel; 0 where it can't be read: the helper clears it. Where it is
+ * larger, the verifier finds a call of no function, 57005 (linux/common/kernel_library.py), and refuses the programs. */
 #define READ(field) ({									\
 	__typeof__(field) value_ = 0;							\
 	__u64 size_ = bpf_core_field_size(field);					\
@@ -79,10 +77,8 @@ static __always_inline __u64 find_list(__u64 lists, __u64 group, bool is_root, _
 	       numa_node * bpf_core_type_size(struct list_lru_one);
 }
 
-/*
- * Returns the address of the head of a group's queue, 0 where there is none, and in `length` how many pages the kernel counts in
- * it. `lists` is the address of deferred_split_lru (mm/huge_memory.c), where the kernel has that.
- */
+/* Returns the address of the head of a group's queue, 0 where there is none, and in `length` how many pages the kernel counts in it.
+ * `lists` is the address of deferred_split_lru (mm/huge_memory.c), where the kernel has that. */
 static __always_inline __u64 find_queue(__u64 lists, __u64 group, bool is_root, __u32 numa_node, __u64 *length)
 {
 	struct list_lru_one *list;

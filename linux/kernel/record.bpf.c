@@ -1,14 +1,12 @@
 // SPDX-License-Identifier: MIT OR GPL-2.0
-/*
- * Records what a control group's tasks do to huge pages, with copies of the group's deferred split queue: a program for each
- * tracepoint. The kinds of records and their fields are in linux/record/records.py.
+/* Records what a control group's tasks do to huge pages, with copies of the group's deferred split queue: a program for each tracepoint.
+ * The kinds of records and their fields are in linux/record/records.py.
  *
- * A record is sent only where it can matter. An address space is known once it has a page of the group (`spaces`), with a bit
- * for each 2 MiB of it where such a page may be. Calls and copies elsewhere, and faults that allocate nothing, aren't sent.
+ * A record is sent only where it can matter. An address space is known once it has a page of the group (`spaces`), with a bit for each 2
+ * MiB of it where such a page may be. Calls and copies elsewhere, and faults that allocate nothing, aren't sent.
  *
- * Most programs are tp_btf: the verifier knows the types of their arguments, so that they load fields without a helper. It lets
- * nobody compute with such pointers: programs that do are raw_tp.
- */
+ * Most programs are tp_btf: the verifier knows the types of their arguments, so that they load fields without a helper. It lets nobody
+ * compute with such pointers: programs that do are raw_tp. */
 #include "kernel_types.h"
 #include "shared.h"
 #include <bpf/bpf_helpers.h>
@@ -80,10 +78,8 @@ static __always_inline int begin_call(int copy, struct pt_regs *regs, long numbe
 	return send(ENTER, task, VALUES(number, regs->di, regs->si, regs->dx, task->mm->brk));
 }
 
-/*
- * sys_enter: the begin of a call that may change mappings (ENTER). Forgets the task's last fault, to which a call's allocations
- * don't belong. tp_btf: reads registers and the task.
- */
+/* sys_enter: the begin of a call that may change mappings (ENTER). Forgets the task's last fault, to which a call's allocations don't
+ * belong. tp_btf: reads registers and the task. */
 IN_COPIES("tp_btf/sys_enter", on_enter, begin_call(copy, regs, number), struct pt_regs *regs, long number)
 
 /* A page is queued: sends the begin of the call of which that is a part, if no program saw it. */
@@ -184,10 +180,8 @@ static __always_inline int end_call(int copy, struct pt_regs *regs, long result)
 	return add_queue(record);
 }
 
-/*
- * sys_exit: the end of such a call, with map counts and the queue (EXIT). A call that reached no page at its begin may reach one
- * at its end: then both are sent. tp_btf: reads registers and the task.
- */
+/* sys_exit: the end of such a call, with map counts and the queue (EXIT). A call that reached no page at its begin may reach one at its
+ * end: then both are sent. tp_btf: reads registers and the task. */
 IN_COPIES("tp_btf/sys_exit", on_exit, end_call(copy, regs, result), struct pt_regs *regs, long result)
 
 /* faults, allocations, frees */
@@ -317,11 +311,9 @@ static __always_inline int note_alloc(int copy, __u64 folio, unsigned int order,
 	return send(ALLOC, task, VALUES(folio, order, state->address ? IN_FAULT : IN_NONE, state->address, state->code));
 }
 
-/*
- * mm_page_alloc: huge pages of the group's tasks, and of kernel threads, which may be khugepaged's (ALLOC); base pages that can
- * be copies (COPY). Huge pages have __GFP_NOMEMALLOC, and all except the huge zero page are movable. While a scan runs, the frees of all
- * that is allocated are recorded again. raw_tp: it computes with the address of the page.
- */
+/* mm_page_alloc: huge pages of the group's tasks, and of kernel threads, which may be khugepaged's (ALLOC); base pages that can be copies
+ * (COPY). Huge pages have __GFP_NOMEMALLOC, and all except the huge zero page are movable. While a scan runs, the frees of all that is
+ * allocated are recorded again. raw_tp: it computes with the address of the page. */
 IN_COPIES("raw_tp/mm_page_alloc", on_alloc, note_alloc(copy, (__u64)page, order, flags),
 	  struct page *page, unsigned int order, __u32 flags)
 
@@ -334,11 +326,9 @@ static __always_inline bool is_scanning(void *arguments)
 	return state && state->scans && read_pointer((__u64)&arguments) - (__u64)task->stack < STACK;
 }
 
-/*
- * Sends the free of a page in a block where a huge page of ours was made. A frame that is freed again was another's meanwhile, and
- * so is a block once it was freed whole. But while a scan runs allocations clear bits, so a frame that it frees with its bit set is
- * free already. The first copy alone sends that: for the others, the first may have set the bit.
- */
+/* Sends the free of a page in a block where a huge page of ours was made. A frame that is freed again was another's meanwhile, and so is a
+ * block once it was freed whole. But while a scan runs allocations clear bits, so a frame that it frees with its bit set is free already.
+ * The first copy alone sends that: for the others, the first may have set the bit. */
 static __always_inline int send_free(int copy, void *arguments, __u64 page, unsigned int order)
 {
 	__u64 block = block_of(page), place, bit, again = 0;
@@ -389,10 +379,8 @@ static __always_inline int note_collapse(int copy, struct mm_struct *mm, int sta
 	return send_with_queue(COLLAPSED, task, VALUES(home.space, status, folio, index));
 }
 
-/*
- * mm_collapse_huge_page: a collapse in an address space of the group, by whomever, with the queue (COLLAPSED;
- * mm/khugepaged.c: collapse_huge_page). tp_btf: reads the owner of the address space, which Linux 7 may have none of.
- */
+/* mm_collapse_huge_page: a collapse in an address space of the group, by whomever, with the queue (COLLAPSED; mm/khugepaged.c:
+ * collapse_huge_page). tp_btf: reads the owner of the address space, which Linux 7 may have none of. */
 IN_COPIES("tp_btf/mm_collapse_huge_page", on_collapse, note_collapse(copy, mm, status, has_collapse_order ? ctx[3] : 0),
 	  struct mm_struct *mm, int isolated, int status)
 

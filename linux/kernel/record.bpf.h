@@ -12,8 +12,9 @@ struct thp_counters counters;
 __u32 running_scans;	/* of our queue */
 __u64 copied;		/* when the queue was last */
 
-enum { CHARGED_TO = ~7, SPACES = 8192, HOMES = 65536, TRACKED = 65536, BLOCKS = 4096, RANGE = 32, INNER_LEVELS = 8, TRIES = 3, LARGE = 512 };
-enum { SHORT = 64, SPACING = 1000000 };	/* pages; ns */
+enum { CHARGED_TO = ~7, BLOCKS = 4096, RANGE = 32, INNER_LEVELS = 8, TRIES = 3, LARGE = 512 };
+enum { SHORT = 64, SPACING = 1000000, LONG_SPACING = 1000 };	/* pages; ns; ns for each page of a longer queue than QUEUE_MOST */
+enum { MOST_STEPS = 1 << 23 };	/* of bpf_loop */
 
 /* A call of a function: when it began (0: it has ended, or isn't one of ours), its page, and whether that was in the queue. */
 struct thp_function { __u64 began, folio, was_linked; };
@@ -50,28 +51,28 @@ struct {
 	__type(value, struct thp_task);
 } tasks SEC(".maps");
 
-#define MAP(name, kind, most, key_type, value_type) struct {	\
+/* Where there is another number of entries, library.c sets it by what the machine has. */
+#define MAP(name, kind, flags, key_type, value_type) struct {	\
 	__uint(type, BPF_MAP_TYPE_##kind);			\
-	__uint(max_entries, most);				\
+	__uint(map_flags, flags);				\
+	__uint(max_entries, 1);					\
 	__type(key, key_type);					\
 	__type(value, value_type);				\
 } name SEC(".maps")
 
-MAP(spaces, HASH, SPACES, __u64, struct thp_space);
-MAP(homes, LRU_HASH, HOMES, struct thp_home, __u64);		/* the folio at a place of its order */
-MAP(tracked, HASH, TRACKED, __u64, struct thp_seen);		/* blocks whose frees are recorded, a bit for each frame whose free was */
+MAP(spaces, HASH, BPF_F_NO_PREALLOC, __u64, struct thp_space);
+MAP(homes, LRU_HASH, 0, struct thp_home, __u64);	/* the folio at a place of its order */
+MAP(tracked, HASH, 0, __u64, struct thp_seen);		/* blocks whose frees are recorded, a bit for each frame whose free was */
 /* a record with a queue: programs that send one aren't preempted, nor run in interrupts */
-MAP(scratch, PERCPU_ARRAY, 1, __u32, struct thp_record);
+MAP(scratch, PERCPU_ARRAY, 0, __u32, struct thp_record);
 
 static const struct thp_space blank;
 
-/*
- * Programs in three copies. The kernel leaves a program out where it would run within itself on a processor: in an interrupt, and where
+/* Programs in three copies. The kernel leaves a program out where it would run within itself on a processor: in an interrupt, and where
  * programs can be preempted (Linux 7), in another task. So each tracepoint has three programs, and what the first one that runs has done,
- * the others don't do again: a free has its bit, what a task does is in its state; and a program isn't preempted but at its first and
- * last instructions. All three are left out only where three other tasks were preempted there in one of them each: no processor has
- * three contexts below the one in which a page is freed.
- */
+ * the others don't do again: a free has its bit, what a task does is in its state; and a program isn't preempted but at its first and last
+ * instructions. All three are left out only where three other tasks were preempted there in one of them each: no processor has three
+ * contexts below the one in which a page is freed. */
 extern void bpf_preempt_disable(void) __ksym __weak;	/* Linux 6.10 */
 extern void bpf_preempt_enable(void) __ksym __weak;
 
@@ -222,13 +223,11 @@ static __always_inline int send(enum kind kind, struct task_struct *task, const 
 
 extern void *bpf_rdonly_cast(const void *address, __u32 type) __ksym __weak;	/* Linux 6.2 */
 
-/* A walk of the queue; `charge`: the memcg_data of the last page that is our group's. */
-struct thp_walk { struct thp_record *record; __u64 head, at, charge; __u32 count, foreign; };
+/* A walk of the queue; `charge`: the memcg_data of the last page that is our group's; `place`: of the next page in the record. */
+struct thp_walk { struct thp_record *record; __u64 head, at, charge; __u32 count, place, foreign; };
 
-/*
- * Whether a page of the queue is another group's, by its memcg_data. Linux 7 moves the pages of a group that is removed to its parent's
- * queue before their charge.
- */
+/* Whether a page of the queue is another group's, by its memcg_data. Linux 7 moves the pages of a group that is removed to its parent's
+ * queue before their charge. */
 static __noinline bool is_foreign(__u64 charge)
 {
 	__u64 group = charged_group(charge);
@@ -240,6 +239,18 @@ static __noinline bool is_foreign(__u64 charge)
 #define LOAD(type, at, field) (bpf_rdonly_cast								\
 	? ((type *)bpf_rdonly_cast(at, bpf_core_type_id_kernel(type)))->field : READ((at)->field))
 
+/* Sends what a record has room for of a longer queue. Returns whether the ring had room. */
+static __always_inline bool send_part(struct thp_record *record, __u32 first)
+{
+	__u64 kind = record->kind;
+	long failed;
+
+	record->kind = PART, record->space_end = first, record->count = QUEUE_MOST;
+	failed = bpf_ringbuf_output(&ring, record, sizeof(*record), 0);
+	record->kind = kind, record->space_end = 0;
+	return !failed;
+}
+
 /* Reads the charge before the link: a page that leaves the queue before its charge doesn't lead to the head. Another group's is read again
  * after it, since a page can come back. A walk ends where it meets a page that has just left the queue and is linked to itself, or the head
  * of a scan's own list, on a stack, below all struct pages. */
@@ -248,10 +259,17 @@ static long step(__u32 index, struct thp_walk *walk)
 	struct folio *folio = (void *)(walk->at - link_offset());
 	struct list_head *link = (void *)walk->at;
 	__u64 charge, next;
+	__u32 place = walk->place;
 
-	if (walk->at == walk->head || index >= QUEUE_MOST || (__u64)folio < settings.first_page)
+	if (walk->at == walk->head || (__u64)folio < settings.first_page)
 		return 1;
-	walk->record->folios[index] = (__u64)folio;
+	if (place >= QUEUE_MOST) {
+		if (!send_part(walk->record, index - QUEUE_MOST))
+			return 1;
+		place = 0;
+	}
+	walk->record->folios[place] = (__u64)folio;
+	walk->place = place + 1;
 	charge = LOAD(struct folio, folio, memcg_data);
 	barrier();
 	next = (__u64)LOAD(struct list_head, link, next);
@@ -266,31 +284,42 @@ static long step(__u32 index, struct thp_walk *walk)
 	return 0;
 }
 
-/* Adds a copy of the queue, which is made again where the walk didn't end where it began, and sends the record. Where functions are
- * traced, long queues are copied less often. */
+/* Whether a queue of this length isn't copied: where functions are traced, or a record has no room for it, copies have a distance in time.
+ * Those of scans that aren't traced are all that shows what they took. */
+static __always_inline bool is_too_soon(struct thp_record *record, __u64 length)
+{
+	if (is_traced && length > SHORT && record->time < copied + SPACING)
+		return true;
+	return length > QUEUE_MOST && (is_traced || (record->kind != SCAN && record->kind != SCANNED)) &&
+	       record->time < copied + LONG_SPACING * length;
+}
+
+/* Adds a copy of the queue, which is made again where the walk didn't end where it began, and sends the record. */
 static __always_inline int add_queue(struct thp_record *record)
 {
 	__u32 numa_node = settings.numa_node < 0 ? 0 : settings.numa_node;
 	struct thp_walk walk = { .record = record, .charge = settings.group };
-	__u64 count = TORN, length = 0, size;
+	__u64 count = TORN, length = 0, size = 0;
 	int tries = TRIES;
 
 	walk.head = find_queue(settings.queue_lists, settings.group, false, numa_node, &length);
 	if (!walk.head)
 		count = 0;
-	if (is_traced && length > SHORT && record->time < copied + SPACING)
+	if (is_too_soon(record, length))
 		tries = 0;
 	else
 		copied = record->time;
 	for (int i = 0; i < tries && count == TORN; i++) {
 		walk.at = (__u64)READ(((struct list_head *)walk.head)->next);
-		walk.count = walk.foreign = 0;
-		bpf_loop(QUEUE_MOST + 1, step, &walk, 0);
+		walk.count = walk.place = walk.foreign = 0;
+		bpf_loop(MOST_STEPS, step, &walk, 0);
 		if (walk.at == walk.head)
 			count = walk.count;
 	}
 	record->count = count | (__u64)walk.foreign << 32;
-	size = __builtin_offsetof(struct thp_record, folios) + (count > QUEUE_MOST ? 0 : 8 * count);
+	if (count != TORN)
+		size = walk.place > QUEUE_MOST ? QUEUE_MOST : walk.place;
+	size = __builtin_offsetof(struct thp_record, folios) + 8 * size;
 	for (int i = 0; i < TRIES; i++)
 		if (!bpf_ringbuf_output(&ring, record, size, 0))
 			return 0;

@@ -7,15 +7,15 @@ enum { PMD_ORDER = 9, BASE_BITS = 12 };
 
 /* records of a recording: linux/record/records.py, Kind */
 
-enum { QUEUE_MOST = 2000 };	/* pages of a queue that a record has room for */
+enum { QUEUE_MOST = 2000 };	/* pages of a queue that a record has room for; those before the last ones of a longer queue are in PARTs */
 #define TORN 0xffffffffu	/* instead of their number: the walk of the queue didn't end where it began */
 enum kind { ENTER, EXIT, FAULT, ALLOC, FREE, FORK, EXIT_MMAP, SCAN, SCANNED, COPY, COLLAPSED, MOVED, CONTENTS,
-	    QUEUED, UNQUEUED, BATCH, TRIED, KINDS };
+	    QUEUED, UNQUEUED, BATCH, TRIED, KINDS, PART = KINDS };
 enum how { IN_FAULT = 1, IN_NONE = 2 };
 
 struct thp_record {
 	unsigned long long kind, time, task, space, values[9];
-	unsigned long long space_end;	/* 0; linux/record/store.py links records here .. */
+	unsigned long long space_end;	/* 0, of a PART its place in the queue; linux/record/records.py links records here .. */
 	unsigned long long count;	/* low half: pages of the queue, or TORN; high half: the place of the first that is another
 					   group's, from 1; 0: none is */
 	unsigned long long link;	/* .. and here */
@@ -31,7 +31,7 @@ struct thp_settings {
 	unsigned int orders;			/* a bit for each that is followed */
 	unsigned int room;			/* bytes of the ring */
 	int numa_node;				/* whose pages are in the queue; -1: those of all nodes */
-	unsigned int unused;
+	unsigned int spaces, blocks, homes;	/* how many this machine can have: address spaces, blocks of 2 MiB, places of pages */
 };
 
 struct thp_counters {

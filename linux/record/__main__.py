@@ -29,7 +29,7 @@ from ..common.helpers import helper
 from ..common.keeper import Keeper
 from ..common.tool import run_tool
 from .journal_builder import JournalBuilder
-from .options import check_command, check_nodes, parse_options
+from .options import check_command, parse_options
 from .recorder import Recorder, Recording
 from .report import JournalFile, Outputs, Report
 
@@ -77,7 +77,6 @@ def record(options: Namespace) -> int:
     machine.demand_common()
     memory = machine.open_memory()
     report = Report(find_checker(options.checker, options.program), options.require, options.strict)
-    check_nodes(options, len(memory.numa_nodes()))
     check_command(options)
     with closing(Outputs(options, len(memory.numa_nodes()))) as outputs:
         with Keeper(NAME, wait=options.wait) as keeper:

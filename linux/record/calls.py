@@ -1,7 +1,6 @@
 """Effects of system calls on the mappings in their address space, by their arguments and return values.
 
-Rules: man pages of section 2; mm/mremap.c, mm/mmap.c and mm/madvise.c of the kernel. Numbers are those of x86-64.
-"""
+Rules: man pages of section 2; mm/mremap.c, mm/mmap.c and mm/madvise.c of the kernel. Numbers are those of x86-64."""
 
 from __future__ import annotations
 

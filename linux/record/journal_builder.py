@@ -4,8 +4,7 @@ Observed: huge pages allocated in a fault or by a collapse; the queue at each sc
 put back, and their order; frames and pages freed; pages that migrate; contents, where the recording looks at them. Inferred:
 mappings from the arguments of system calls (compared with the page's own counts at the call's end), from forks and ends of
 address spaces; pins from what a scan leaves; other writes (with the switch on) from the kernel's verdicts. A page with an
-event that isn't understood is left out, with a reason. docs/LINUX.md has the table.
-"""
+event that isn't understood is left out, with a reason. docs/LINUX.md has the table."""
 
 from __future__ import annotations
 
@@ -18,7 +17,7 @@ from ..common.subpages import runs
 from .calls import COLLAPSE, COPIED, MADVISE, MADV_COLLAPSE, MREMAP, has_succeeded, list_effects
 from .observed import Observations
 from .queue_laws import QueueLaws
-from .reasons import Count, Doubt, Omission
+from .reasons import Count, Omission
 from .records import IN_FAULT, JOINED, OBSERVED, QUEUE_MOST, WITH_QUEUE, Batch, Kind, Record
 from .state import Page
 from .traced_scans import TracedScans, with_bounds
@@ -43,7 +42,7 @@ class JournalBuilder(TracedScans):
         for record, until in ((record, 0) for record in records) if batches is None else with_bounds(records):
             laws.see(record)
             self.begin_batches(until)
-            self.now, self.task = record.time, record.task
+            self.now, self.task, self.space = record.time, record.task, record.space
             if record.kind in OBSERVED:
                 self._add_observed(record)
                 continue
@@ -51,7 +50,6 @@ class JournalBuilder(TracedScans):
                 self.ends.update(record.space_ends)
             if record.queue is None and len(self.queue) > QUEUE_MOST and record.kind in WITH_QUEUE:
                 self.tallies[Count.COPIES_MISSING] += 1
-                self.begin_doubt(Doubt.LONG_QUEUE)
             if record.queue is not None and record.time < self.emitted_until:
                 # begun before the end of a scan whose record came first: the copy may show the queue before that
                 record.queue = None
@@ -63,7 +61,7 @@ class JournalBuilder(TracedScans):
     def _add_observed(self, record: Record) -> None:
         """Notes what function tracing has observed, and emits the event by which a page has joined the queue."""
         page, scan = self.at.get(record.values[0]), None if self.is_doubted else self.scans.get(record.task)
-        is_ordered = scan and len(self.scans) == len(scan.batches) == 1
+        is_ordered = scan and len(self.scans) == len(scan.batches) == 1 and record.kind is Kind.BATCH
         queue = [each.folio if each else 0 for each in scan.pages] if scan and is_ordered else None
         self.observations.add(record, page.number if page else None, queue)
         if record.kind is Kind.BATCH:
@@ -72,7 +70,7 @@ class JournalBuilder(TracedScans):
             return
         if self.joining.get(record.task) is page:  # at its fault
             del self.joining[record.task]
-            if page in self.queue[:-1]:
+            if page in self.queue and next(reversed(self.queue)) is not page:
                 self.move_to_end({page})
         elif page not in self.queue:
             self.emit_join(page, [page.folio])
@@ -131,6 +129,7 @@ class JournalBuilder(TracedScans):
         self.match(record.queue)
         for key in [key for key, call in self.pending.items() if call.space == space and key[1] is Kind.ENTER]:
             del self.pending[key]
+        self.end_callers(space)
         for pages in (self._fault_pages, self.joining):
             for task in [task for task, page in pages.items() if not page.is_live]:
                 del pages[task]
@@ -168,7 +167,7 @@ class JournalBuilder(TracedScans):
                 lines += 1
             page.written ^= bits
         if lines and not page.is_seen and not page.is_tried:
-            self.lines.move_behind(page.first, lines)
+            self.lines.move_behind(page.number, lines)
         page.is_seen = True
 
     def handle_copy(self, record: Record) -> None:
@@ -177,9 +176,10 @@ class JournalBuilder(TracedScans):
         _, how, address, code = record.values[:4]
         if how != IN_FAULT or code & WRITTEN != WRITTEN:
             return
-        for page, mapping in self.spaces.get(record.space, {}).items():
-            i = (address - mapping.base) // BASE
-            if 0 <= i < page.subpages and mapping.bits >> i & 1:
+        for page in self.pages_between(record.space, address, address + 1):
+            mapping = page.mapping_in(record.space)
+            i = (address - mapping.base) // BASE if mapping else 0
+            if mapping and mapping.bits >> i & 1:
                 self._begin(Kind.COPY, record, record.space, COPIED, mapping.base + BASE * i, BASE)
                 break
 
@@ -190,8 +190,8 @@ class JournalBuilder(TracedScans):
         if page and order == 0:
             page.freed_frames |= 1 << (freed - page.folio) // self.page_size
             scan = self.scans.get(record.task)
-            if scan and page in self.queue and page not in scan.split:
-                scan.split.append(page)
+            if scan and page in self.queue:
+                scan.split[page] = None
         elif page and order == self.order and freed == page.folio and not self._has_migrated(record.task, page):
             if self._fault_pages.get(record.task) is page and page.used_subpages() and not self.is_ending(page):
                 self.discard(page)
@@ -217,7 +217,7 @@ class JournalBuilder(TracedScans):
         """Returns whether a freed page continues in another place, by what its task has just mapped again."""
         for record in self._moves.pop(task, ()):
             address, folio, order = record.values[:3]
-            inside = any(0 <= address - each.base < page.subpages * BASE for each in page.maps.values())
+            inside = any(0 <= address - each.base < page.subpages * BASE for each in page.maps)
             if inside and order == self.order and page.is_live and not page.split:
                 self.tallies[Count.MIGRATED] += 1
                 del self.at[page.folio]

@@ -2,7 +2,7 @@
 
 from __future__ import annotations
 
-from dataclasses import dataclass, field, replace
+from dataclasses import dataclass, field
 
 from ..common.files import BASE, PMD_ORDER
 from ..common.subpages import bits_of, runs
@@ -32,14 +32,13 @@ class MappingEvents(State):
         """Emits what a running call has done to one page. Events of the other pages that the call reaches follow at its
         end, or as soon as something shows them."""
         for effect in list_removals(record):
-            if record.space in page.maps:
+            if page.mapping_in(record.space):
                 self._apply_effect(record, effect, page, queue)
 
     def reaches(self, call: Record, page: Page) -> bool:
         """Returns whether a running call removes mappings of a page that were not emitted early."""
-        mapping = page.maps.get(call.space)
-        return mapping is not None and any(
-            self._subpages_in_range(call, each, page) & mapping.bits for each in list_removals(call))
+        mapping = page.mapping_in(call.space)
+        return mapping is not None and any(self._subpages_in_range(call, each, page) & mapping.bits for each in list_removals(call))
 
     def calls_reaching(self, page: Page) -> list[Record]:
         """Returns the running calls that remove mappings of a page."""
@@ -50,8 +49,8 @@ class MappingEvents(State):
         parent, child = record.values[:2]
         if parent == child:
             return
-        for page, mapping in list(self.spaces.get(parent, {}).items()):
-            copy = replace(mapping, space=child, since=self.now)
+        for page, mapping in self.spaces[parent].between() if parent in self.spaces else ():
+            copy = Mapping(child, mapping.base, mapping.whole, mapping.bits, self.now)
             self.add_mapping(page, copy)
             if mapping.whole:
                 self.emit(record.task, page, "mapwhole")
@@ -65,19 +64,19 @@ class MappingEvents(State):
         space = record.space = record.values[0]
         self.ends.pop(space, None)
         self._remapped.discard(space)
-        self._places.pop(space, None)
-        for page, mapping in sorted(self.spaces.pop(space, {}).items(), key=lambda each: each[1].base):
+        ended = self.spaces.pop(space, None)
+        for page, mapping in ended.between() if ended else ():
             self.unmap(record, page, mapping, page.every, record.queue)
 
     def end_early(self, page: Page, queue: list[int]) -> None:
         """Removes a page whose processes have ended, before their end is recorded."""
-        for mapping in list(page.maps.values()):
+        for mapping in page.maps:
             self.unmap(self.ends[mapping.space], page, mapping, page.every, queue)
 
     def begin_end(self, page: Page, queue: list[int]) -> None:
         """Unmaps a page that is in the queue in address spaces that are ending, one after the other until it is partly mapped. Of
         the last mapping the part that lies in the first of two page tables goes."""
-        for mapping in [page.maps[space] for space in self.ending_spaces(page)]:
+        for mapping in [each for space in self.ending_spaces(page) for each in page.maps if each.space == space]:
             bits = page.every if len(page.maps) > 1 else self._in_first_table(mapping)
             if bits and page not in self.queue:
                 self.unmap(self.ends[mapping.space], page, mapping, bits, queue)
@@ -99,20 +98,19 @@ class MappingEvents(State):
             elif outcome == "freed":
                 self.remove_page(page)
         if not mapping.bits:
-            page.maps.pop(mapping.space, None)
-            self.spaces.get(mapping.space, {}).pop(page, None)
+            self.drop_mapping(page, mapping.space)
 
     def compare_counts(self, record: Record) -> None:
         """Compares a page's map counts at a call's end with those of the journal, if no other call or scan can have
         changed them meanwhile."""
         folio, whole, total, mapped = record.counts()
         page = self.at.get(folio)
-        mapping = page.maps.get(record.space) if page else None
+        mapping = page.mapping_in(record.space) if page else None
         if not page or not mapping or page.split or page.is_omitted or self.scans or page.last_change > record.time:
             return
         if not 0 <= record.values[1] - mapping.base < page.subpages * BASE:
             return  # the page that was there has gone, and this one has its frames
-        if any(call.space in page.maps for call in self.pending.values()):
+        if any(page.mapping_in(call.space) for call in self.pending.values()):
             return
         own = page.counts()
         kept = mapped or total == whole  # not where NO_PAGE_MAPCOUNT is configured
@@ -140,8 +138,8 @@ class MappingEvents(State):
 
     def _apply_effect(self, record: Record, effect: Effect, page: Page, queue: list[int] | None) -> None:
         """Applies an effect of a call to one page."""
-        mapping, bits = page.maps[record.space], self._subpages_in_range(record, effect, page)
-        if not bits:
+        mapping, bits = page.mapping_in(record.space), self._subpages_in_range(record, effect, page)
+        if not bits or not mapping:
             return
         page.last_change = self.now
         if effect.change in REMOVING:
@@ -155,7 +153,9 @@ class MappingEvents(State):
 
     def _subpages_in_range(self, record: Record, effect: Effect, page: Page) -> int:
         """Returns the subpages of a page in the range of a call of an address space that maps it."""
-        mapping = page.maps[record.space]
+        mapping = page.mapping_in(record.space)
+        if not mapping:
+            return 0
         low, high = max(effect.start, mapping.base), min(effect.end, mapping.base + page.subpages * BASE)
         if low >= high:
             return 0
@@ -200,9 +200,9 @@ class MappingEvents(State):
         newly = before != after
         if newly and not page.is_partly_mapped:
             page.is_partly_mapped, page.partly_since = True, self.now
-        seen = queue is not None and page.folio in queue
         if not newly or page in self.queue or page.is_taken:
             return "stays", 0
+        seen = queue is not None and page.folio in queue
         if queue is None or seen or not last or page.is_freed:
             self.tallies[Count.QUEUED_SEEN if seen else Count.QUEUED_INFERRED] += 1
             return "queued", 0

@@ -13,7 +13,6 @@ from ..common.files import PMD_ORDER
 from ..common.text import escape
 from ..common.user import user_for
 
-NODES = 8  # of a journal (docs/FORMATS.md)
 OWN_WORDS = ("zeros", "collapse", "areas")
 LONG = 1000000000.0  # seconds
 
@@ -51,12 +50,6 @@ def parse_options(text: str, name: str, words: list[str] | None = None) -> Names
         raise InputFault("--user needs a command")
     options.user = user_for(options.user) if options.command else None
     return options
-
-
-def check_nodes(options: Namespace, queues: int) -> None:
-    """InputFault where a journal with so many queues has too many nodes."""
-    if len(options.order) * queues > NODES:
-        raise InputFault(f"the orders times {queues} NUMA nodes are more than {NODES} nodes of a journal")
 
 
 def check_command(options: Namespace) -> None:

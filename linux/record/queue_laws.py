@@ -3,8 +3,7 @@ that is freed or made meanwhile may be met at any place.
 
 The order of two copies proves something where the first was complete before the second was begun, and each scan that ran since the first
 was begun had taken its pages before: it takes them in one step, before it frees a frame of one of them. Then the pages that both copies
-show have stayed in their order, and all others follow them. A copy is complete when the next record without one is made.
-"""
+show have stayed in their order, and all others follow them. A copy is complete when the next record without one is made."""
 
 from __future__ import annotations
 

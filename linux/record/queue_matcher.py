@@ -5,7 +5,7 @@ from __future__ import annotations
 from .calls import list_removals
 from .mappings import MappingEvents
 from .reasons import Count, Doubt, Omission
-from .records import Kind
+from .records import QUEUE_MOST, Kind
 from .state import Page
 
 
@@ -30,11 +30,11 @@ class QueueMatcher(MappingEvents):
             if page.folio not in shown and page not in self.joining.values() and page in self.queue and page.born <= self.now:
                 self._emit_leave(page, queue)
         for page in self.joining.values():
-            if page.folio not in queue and page in self.queue and not page.is_freed:
+            if page.folio not in shown and page in self.queue and not page.is_freed:
                 self.move_to_end({page})  # its allocation put it into our queue, but it is not in the kernel's yet
         found = [page for page in map(self.at.get, queue) if page and page.born <= self.now]
-        own_queue = {*self.queue}
-        self._reorder([page for page in found if page in own_queue])
+        if not self._reorder([page for page in found if page in self.queue]):
+            return
         skip = {*self.joining.values(), *(page for page in self.queue if page.born > self.now)}
         mine = [page for page in self.queue if not page.is_omitted and page not in skip]
         kernels = [page for page in found if not page.is_omitted and page not in skip]
@@ -47,18 +47,21 @@ class QueueMatcher(MappingEvents):
                                                       for page in self.pages_between(call.space, each.start, each.end))
                    for call in self.pending.values()):
             self.tallies[Count.QUEUES_COMPARED] += 1
-            self.tallies[Doubt.QUEUES if self.is_doubted else Count.QUEUES_DIFFER] += differs
+            is_long = len(self.queue) > QUEUE_MOST  # few copies show in which order tasks have queued its pages
+            self.tallies[Count.LONG_COMPARED] += is_long
+            self.tallies[Doubt.QUEUES if self.is_doubted or is_long else Count.QUEUES_DIFFER] += differs
             if not differs:
                 self.end_doubt()
+                joining = {*self.joining.values()}
                 for page in self.queue:
-                    if page not in self.joining.values():
+                    if page not in joining:
                         page.join = None  # its place is known
 
     def _is_journal_queue(self, queue: list[int]) -> bool:
         """Returns whether a copy equals the journal's queue and nothing runs that it could show: the usual case, and quick."""
         if self.scans or self.joining or len(queue) != len(self.queue):
             return False
-        same = [page.folio for page in self.queue] == queue and [*map(self.at.get, queue)] == self.queue
+        same = [page.folio for page in self.queue] == queue and [*map(self.at.get, queue)] == [*self.queue]
         return same and all(call.kind is not Kind.COLLAPSED for call in self.pending.values())
 
     def emit_early_joins(self, queue: list[int]) -> None:
@@ -87,7 +90,7 @@ class QueueMatcher(MappingEvents):
     def _emit_leave(self, page: Page, queue: list[int]) -> None:
         """Emits the event by which a page of our queue has left the kernel's."""
         page.missed = page.missed or self.now
-        running = [call for call in self.pending.values() if call.space in page.maps and call.time < page.missed]
+        running = [call for call in self.pending.values() if page.mapping_in(call.space) and call.time < page.missed]
         calls_reaching = self.calls_reaching(page)
         if not page.used_subpages():  # its last pin has gone, and the record of its free comes
             self.last_unpin(self.task, page)
@@ -114,12 +117,24 @@ class QueueMatcher(MappingEvents):
         late = {i for i in range(first, len(lines)) if i >= places.get(lines[i].page, len(lines))}
         self.lines.latest[first:] = [lines[i] for i in sorted(range(first, len(lines)), key=lambda i: i in late)]
         for queue in (self.queue, self.journal_queue):
-            queue.sort(key=lambda page: page in later)  # stable: the later ones go to the end
+            for page in [page for page in queue if page in later]:
+                del queue[page]
+                queue[page] = None
 
-    def _reorder(self, kernels: list[Page]) -> None:
-        """Moves events of a page to an earlier place: pages of two tasks may join in another order than that in which their calls end."""
+    def _reorder(self, kernels: list[Page]) -> bool:
+        """Moves events of a page to an earlier place: pages of two tasks may join in another order than that in which their calls end.
+        Returns whether those of no page were too old for it, which is left out then."""
         these = {*kernels}
         mine = [page for page in self.queue if page in these]
+        if mine != kernels:
+            queue, journal_queue = [*self.queue], [*self.journal_queue]
+            is_known = self._move_to_places(kernels, mine, queue, journal_queue)
+            self.queue, self.journal_queue = dict.fromkeys(queue), dict.fromkeys(journal_queue)
+            return is_known
+        return True
+
+    def _move_to_places(self, kernels: list[Page], mine: list[Page], queue: list[Page], journal_queue: list[Page]) -> bool:
+        """Moves pages and their events until `mine`, which are pages of both queues, are in the kernel's order, or one can't be moved."""
         for i, page in enumerate(kernels):
             other = mine[i]
             if other is page:
@@ -128,13 +143,14 @@ class QueueMatcher(MappingEvents):
             if late is not page and not page.is_omitted:  # the lines of a page that is left out have any place
                 first, last = self.place_of_join(late), self.place_of_join(page)
                 if not 0 <= first <= last:
-                    return
+                    return not late.is_omitted and not page.is_omitted
                 window = self.lines.latest[first : last + 1]
                 own = [line for line in window if line.page == page.number]
                 self.lines.latest[first : last + 1] = own + [line for line in window if line.page != page.number]
-                self.journal_queue.remove(page)
-                self.journal_queue.insert(self.journal_queue.index(late), page)
-            self.queue.remove(page)
-            self.queue.insert(self.queue.index(other), page)
+                journal_queue.remove(page)
+                journal_queue.insert(journal_queue.index(late), page)
+            queue.remove(page)
+            queue.insert(queue.index(other), page)
             mine.remove(page)
             mine.insert(i, page)
+        return True

@@ -43,11 +43,10 @@ class Doubt(Reason):
     LOST = "records were lost", Origin.LIMIT, FEWER
     DISK_FULL = "records reached the limit of --disk", Origin.LIMIT, "a larger --disk, or a shorter time (--seconds)"
     FEW_FOLLOWED = "pages weren't followed, more than --require allows", Origin.LIMIT, "see what was left out"
-    MANY_PAGES = "more than 4096 pages at once, for which a journal has no room", Origin.LIMIT, "record a part of the program"
-    LONG_QUEUE = "more than 2000 pages in the queue, for which copies have no room", Origin.LIMIT, SHORT
     OVERLAP = "scans that overlap: their order isn't known", Origin.LIMIT, FEWER
     BATCHES = "scans of several batches, while pages joined and left the queue", Origin.LIMIT, SHORT
     MISSING = "scans that no copy of the queue shows", Origin.LIMIT, FEWER
+    TOO_OLD = "pages joined the queue too long ago for their places to be changed", Origin.LIMIT, SHORTER
     QUEUES = "copies of the queue differ where its order isn't known", Origin.LIMIT, FEWER
 
 
@@ -93,8 +92,9 @@ class Count(Reason):
     DROPPED = "underused pages dropped since their split failed, as observed (F)", Origin.KERNEL
     SCANS = "scans"
     SCANS_MISSING = "scans that no copy of the queue shows", Origin.LIMIT, FEWER
-    COPIES_MISSING = "copies that have no room for more than 2000 pages of the queue", Origin.LIMIT, SHORT
+    COPIES_MISSING = "copies of a queue of more than 2000 pages that weren't made, or not to its end: those compared have all of its pages"
     QUEUES_COMPARED = "queues compared"
+    LONG_COMPARED = "of these, queues of more than 2000 pages"
     QUEUES_DIFFER = "queues that differ", Origin.KERNEL
     MET_TWICE = "copies of the queue with a page twice, while no scan ran", Origin.KERNEL
     QUEUED_FREE = "pages in the queue after they were freed", Origin.KERNEL

@@ -30,6 +30,8 @@ from .records import HEAD, SET, Kind, Store
 from .scratch import FOLDER
 
 RING = 1 << 24  # bytes of all rings; all of them count as resident
+TASKS = "/proc/sys/kernel/threads-max"
+MOST_HOMES = 1 << 18
 QUIET = 3600000  # milliseconds between khugepaged's rounds
 AFTER = 0.05  # seconds for what comes after the commands' end
 MOST_MEMORY = 64  # MiB of one look at contents
@@ -48,6 +50,13 @@ def at_nice(value: int) -> Iterator[None]:
         os.setpriority(os.PRIO_PROCESS, 0, former)
 
 
+def sizes_for(orders: Sequence[int]) -> tuple[int, int, int]:
+    """Returns how many address spaces, blocks of 2 MiB, and places of pages of these orders there can be here: one of each task; twice what
+    all memory has, for holes; as all memory has, but at most MOST_HOMES: map counts of pages that have none aren't compared."""
+    pages = os.sysconf("SC_PHYS_PAGES")
+    return int(read(TASKS)), 2 * (pages >> PMD_ORDER) + 1, max(1, min(MOST_HOMES, pages >> min(orders)))
+
+
 class Track:
     """The BPF programs (linux/kernel/record.bpf.c) and the records of one queue of a control group, until `close`. `folios`: where
     those of the queue's NUMA node are; none: those of all nodes. `lacking` names what this kernel doesn't report."""
@@ -59,7 +68,7 @@ class Track:
             self.folios = tuple(range(memory.folio(each.start), memory.folio(each.stop)) for each in numa_frames()[node])
         settings = Settings(
             memory.group(path), memory.first_page(), memory.scan_function(), memory.queue_lists(),
-            sum(1 << order for order in orders), room, -1 if node is None else node,
+            sum(1 << order for order in orders), room, -1 if node is None else node, *sizes_for(orders),
         )
         self._library = load_library()
         self._recorder, self.lacking = open_programs("thp_record_open", ctypes.byref(settings))

@@ -2,8 +2,7 @@
 read back in passes, so that a recording of any length needs little memory.
 
 A record in the file is as in the ring: a head of 8 bytes, the record, padding to 8 bytes. Two words of a record that the trace programs
-leave 0 become its links.
-"""
+leave 0 become its links."""
 
 from __future__ import annotations
 
@@ -12,20 +11,21 @@ import os
 import struct
 from array import array
 from bisect import bisect
+from collections import Counter as Tallies
 from dataclasses import dataclass
-from typing import Callable, Iterator
+from typing import Callable, Iterable, Iterator, Sequence
 
 from ..common.errors import RunFailed
 from .scratch import FOLDER, ScratchFile
 
-QUEUE_MOST = 2000  # pages of a queue that a record carries
+QUEUE_MOST = 2000  # pages of a queue that a record carries; those of a longer queue that precede its last ones are in PARTs before it
 TORN = (1 << 32) - 1  # instead of their number: the walk of the queue didn't end where it began
 SET = 64  # bytes of a set of subpages
 HEAD = struct.Struct("<16Q")  # kind, time, tid and tgid, mm, nine values, a link, count, a link: struct thp_record
 SIZE = HEAD.size + 8 * QUEUE_MOST
 RING_HEAD = 8  # bytes before a record: its length
 SPACE_LINK_AT, LINK_AT = 8 * 13, 8 * 15  # the words of a record that are its links
-_LINK = struct.Struct("<Q")
+_LINK, _PART = struct.Struct("<Q"), struct.Struct("<16xQ80xQ")
 _WORD = (1 << 32) - 1
 
 
@@ -50,11 +50,13 @@ class Kind(enum.IntEnum):
     UNQUEUED = 14  # __folio_unqueue_deferred_split: 1, the page was in the queue
     BATCH = 15  # deferred_split_scan (folio 0)
     TRIED = 16  # __folio_split, or split_huge_page_to_list_to_order: 0, the page is split
+    PART = 17  # pages of the queue that its task's next record copies, from the place in the first word for links on; only in the file
 
 
 WITH_QUEUE = frozenset([Kind.EXIT, Kind.EXIT_MMAP, Kind.SCAN, Kind.SCANNED, Kind.COLLAPSED])
 OBSERVED = frozenset([Kind.QUEUED, Kind.UNQUEUED, Kind.BATCH, Kind.TRIED])
 IN_FAULT, JOINED = 1, 2  # how a page is allocated; bits of a page that is in a list after the call alone
+_WITH_QUEUE = frozenset(map(int, WITH_QUEUE))
 _KINDS = tuple((kind, kind in WITH_QUEUE) for kind in Kind)
 _SUBPAGES = (1 << 23) - 1  # of _nr_pages_mapped: the bits above it show whether a PMD entry maps the page
 
@@ -92,18 +94,19 @@ class Record:
         return folio if mapped <= _WORD else 0, (whole + 1) & _WORD, (total + 1) & _WORD, mapped & _SUBPAGES
 
 
-def parse_record(raw: bytes, place: int = 0) -> Record:
-    """Returns a record by its bytes, which begin at a place."""
+def parse_record(raw: bytes, place: int = 0, before: Sequence[int] = ()) -> Record:
+    """Returns a record by its bytes, which begin at a place, and the pages of the queue in the PARTs before it."""
     words, at = HEAD.unpack_from(raw, place), place + HEAD.size
     (kind, has_queue), count, mark = _KINDS[words[0]], words[14] & _WORD, words[14] >> 32
     queue: list[int] | None = None
     contents, twice, foreign = None, 0, 0
-    if has_queue and count <= QUEUE_MOST:
-        folios = struct.unpack_from(f"<{count}Q", raw, at)
+    in_parts = (count - 1) // QUEUE_MOST * QUEUE_MOST if count else 0
+    if has_queue and count != TORN and in_parts in (0, len(before)):
+        folios = [*before[:in_parts], *struct.unpack_from(f"<{count - in_parts}Q", raw, at)]
         if len({*folios}) < count:  # a walk of a list that changes may meet a page again
-            twice = next(folio for folio in folios if folios.count(folio) > 1)
+            twice = next(folio for folio, many in Tallies(folios).items() if many > 1)
         else:
-            queue, foreign = [*folios], folios[mark - 1] if 0 < mark <= count else 0
+            queue, foreign = folios, folios[mark - 1] if 0 < mark <= count else 0
     elif kind is Kind.CONTENTS:
         contents = int.from_bytes(raw[at : at + SET], "little"), int.from_bytes(raw[at + SET : at + 2 * SET], "little")
     links = words[13], words[15]
@@ -134,6 +137,7 @@ class Store(ScratchFile):
         self.report: Callable[[float], None] = lambda share: None  # is called now and then with the share of a pass that is over
         self.batches: list[Batch] | None = None
         self._made = array("Q"), array("Q"), array("Q")  # of each huge page allocated: its record's place, folio and time
+        self._parts: dict[int, array[int]] = {}  # by the places of records with longer queues than they have room for: those of their PARTs
 
     def add(self, raw: bytes) -> None:
         """Appends one record."""
@@ -174,8 +178,15 @@ class Store(ScratchFile):
             record.space_ends = space_ends or None
             yield record
 
+    def _read_parts(self, places: Iterable[int]) -> list[int]:
+        """Returns the pages in PARTs."""
+        folios = array("Q")
+        for at in places:
+            folios.frombytes(os.pread(self.descriptor, SIZE, at)[HEAD.size :])
+        return folios.tolist()
+
     def _record_at(self, at: int) -> Record:
-        record = parse_record(os.pread(self.descriptor, SIZE, at))
+        record = parse_record(os.pread(self.descriptor, SIZE, at), 0, self._read_parts(self._parts.get(at, ())))
         if record.kind is Kind.SCANNED and record.link:
             record.next_queue = self._record_at(record.link).queue
         return record
@@ -183,6 +194,7 @@ class Store(ScratchFile):
     def _walk(self, with_frees: bool = True) -> Iterator[tuple[int, Record]]:
         """Yields the records in order, each with its place in the file, perhaps without those of frees, which are most."""
         rest, place, end = b"", 0, self.size  # what is left of the last piece, and where that is
+        parts: dict[int, array[int]] = {}  # by tasks, the places of PARTs of a copy
         for piece in self.pieces():
             data, at = rest + piece, 0
             self.report(place / end)
@@ -190,8 +202,16 @@ class Store(ScratchFile):
                 begin, length = at + RING_HEAD, _LINK.unpack_from(data, at)[0]
                 if len(data) < begin + length + -length % 8:
                     break
-                if with_frees or data[begin] != Kind.FREE:
-                    yield place + begin, parse_record(data, begin)
+                kind, before = data[begin], list[int]()
+                if kind == Kind.PART:
+                    task, first = _PART.unpack_from(data, begin)
+                    places = parts[task & _WORD] = parts.get(task & _WORD, array("Q")) if first else array("Q")
+                    places.append(place + begin)
+                elif kind in _WITH_QUEUE and parts:
+                    places = parts.pop(HEAD.unpack_from(data, begin)[2] & _WORD, array("Q"))
+                    self._parts[place + begin], before = places, self._read_parts(places)
+                if kind != Kind.PART and (with_frees or kind != Kind.FREE):
+                    yield place + begin, parse_record(data, begin, before)
                 at = begin + length + -length % 8
             rest, place = data[at:], place + at
         if rest:

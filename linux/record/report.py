@@ -11,13 +11,12 @@ from typing import IO, Iterable, Sequence
 from ..common.checker import JournalChecker
 from ..common.errors import DIFFERS, DONE, INCONCLUSIVE, SKIPPED, InputFault, RunFailed
 from ..common.files import NewFile
-from ..common.journal import Node, journal_lines
 from ..common.text import escape, text_lines
 from .journal_builder import JournalBuilder
 from .reasons import PROVED, Count, Doubt, Omission, Reason, describe
 from .recorder import Recording
 from .scratch import ScratchFile
-from .state import MOST_BLOCKS
+from .state import State, journal_lines
 
 SHOWN = 300  # letters of a line that is printed
 MOST_SHOWN = 5  # events that observation contradicts
@@ -26,7 +25,7 @@ MOST_SHOWN = 5  # events that observation contradicts
 class JournalFile(ScratchFile):
     """A journal in an unnamed temporary file. `events`: how many it has."""
 
-    def __init__(self, nodes: Sequence[Node]) -> None:
+    def __init__(self, nodes: Sequence[State]) -> None:
         super().__init__("the journal")
         self.events = self.append_lines(journal_lines(nodes)) - len(nodes) - 2
 
@@ -155,8 +154,8 @@ def doubt_at(builders: Sequence[JournalBuilder], line: int) -> Reason | None:
     at = 1
     for builder in builders:
         at += 1  # the node's line
-        for time, text in builder.timed_texts():
+        for time, _ in builder.timed_texts():
             at += 1
             if at == line:
-                return Doubt.MANY_PAGES if builder.blocks == MOST_BLOCKS and " alloc " in text else builder.doubt_at(time)
+                return builder.doubt_at(time)
     return None

@@ -2,15 +2,18 @@
 
 from __future__ import annotations
 
+from collections import deque
 from dataclasses import dataclass
+from itertools import islice, takewhile
 from operator import itemgetter
-from typing import Collection, Iterator, Sequence
+from typing import AbstractSet, Iterable, Iterator, Mapping
 
+from ..common.journal import MOST_CALLERS
 from ..common.subpages import runs, size
 from .queue_matcher import QueueMatcher
 from .reasons import Count, Doubt, Omission
 from .records import Record
-from .state import CALLERS, Page, Scan
+from .state import Page, Queue, Scan
 
 BATCH = 128  # pages that a scan takes at most at a time
 
@@ -23,6 +26,17 @@ def batches_of(total: int, freeable: int) -> Iterator[tuple[int, int]]:
         count = min(BATCH, total)
         yield first, count
         first, total = first + count, total - count
+
+
+def places_of(pages: Iterable[Page | None]) -> dict[Page, int]:
+    """Returns where pages are in a sequence."""
+    return {page: at for at, page in enumerate(pages) if page}
+
+
+def list_members(queue: Queue, pages: Iterable[Page]) -> list[Page]:
+    """Returns those of some pages that are in a queue, in its order; looks no further than their last."""
+    members = {page for page in pages if page in queue}
+    return [*islice((page for page in queue if page in members), len(members))]
 
 
 @dataclass(eq=False)
@@ -76,12 +90,11 @@ class ScanEvents(QueueMatcher):
         self.emit_early_joins(queue[: max(places, default=0)])  # running calls queued these before the scan put pages back
         self._take_before(scan)
         # what precedes a page that it took, and wasn't taken, has joined later, though that was recorded before
-        self.move_to_end({page for page in self._older([*scan.pages[: scan.reach], *scan.split]) if page.join})
-        found, stays = [self.at.get(folio) for folio in queue], []
+        self.move_to_end({page for page in self._older({*scan.pages[: scan.reach], *scan.split}) if page.join})
+        stays, kernels, former = list[Page](), self._places_in(queue), places_of(scan.pages)
         while scan.batches:
-            stays += self._end_batch(scan, found, queue)
-        kernels = [page for page in found if page]
-        self._postpone_joins(kernels, [page for page in stays if not page.is_omitted], scan.pages)
+            stays += self._end_batch(scan, kernels, former, queue)
+        self._postpone_joins(kernels, [page for page in stays if not page.is_omitted], {*scan.pages})
         self._put_between(stays, kernels)
         self.match(own)
 
@@ -89,12 +102,12 @@ class ScanEvents(QueueMatcher):
         """Emits a scan that another task still runs, if the pages that it puts back precede a page that is new in the
         queue. The queue shows these pages now: when the scan's end is recorded, one of them may have been freed, and
         its folio may be another page's, elsewhere in the queue."""
-        if not self.scans:
+        if not self.scans or queue is None:
             return
         own_queue = {page.folio for page in self.queue}
         for start, reach in [(scan.start, scan.reach) for scan in self.scans.values() if len(scan.batches) < 2]:
             end = start.end and start.end.queue_at_end()
-            if not start.end or not end or not start.queue or queue is None or self.now < start.time:
+            if not start.end or not end or not start.queue or self.now < start.time:
                 continue  # a copy that was begun before the scan shows nothing of it
             made = start.folios_made or {}  # in these folios the scan's end shows other pages
             before, taken = {*start.queue}, {*start.queue[:reach]}
@@ -106,25 +119,29 @@ class ScanEvents(QueueMatcher):
                 start.end.is_applied = True
                 self.handle_scanned(start.end, queue)
 
-    def _batch(self, scan: Scan, first: int, count: int, found: list[Page | None]) -> list[Page]:
+    def _places_in(self, queue: list[int]) -> dict[Page, int]:
+        """Returns the places of known pages in a copy of the queue, in its order."""
+        return places_of([self.at.get(folio) for folio in queue])
+
+    def _batch(self, scan: Scan, first: int, count: int, found: Mapping[Page, int]) -> list[Page]:
         """Returns the pages of a batch: those that were oldest at the scan's start, and of the last batch all that the scan has split. If
         these are too many, it has left some of the first, which are in the queue at its end."""
-        queue, former = {*self.queue}, scan.pages[: first + count]
-        batch = [page for page in former[first:] if page and page in queue]
+        batch = [page for page in scan.pages[first : first + count] if page and page in self.queue]
         if not scan.batches:
-            batch += [page for page in scan.split if page in queue and page not in former]
-        left = [page for page in batch if page in found][: max(len(batch) - count, 0)]
+            former = {*scan.pages[: first + count]}
+            batch += [page for page in scan.split if page in self.queue and page not in former]
+        left = {*[page for page in batch if page in found][: max(len(batch) - count, 0)]}
         return [page for page in batch if page not in left]
 
-    def _end_batch(self, scan: Scan, found: list[Page | None], queue: list[int]) -> list[Page]:
-        """Emits a batch of a scan by the queue after it; returns the pages put back, in the kernel's order."""
+    def _end_batch(self, scan: Scan, found: Mapping[Page, int], former: Mapping[Page, int], queue: list[int]) -> list[Page]:
+        """Emits a batch of a scan by the queue after it; returns the pages put back, in the kernel's order. `former`: where pages were
+        in the queue at its start."""
         first, count = scan.batches.pop(0)
         batch = [page for page in scan.taken if page.is_live] or self._batch(scan, first, count, found)
         for page in batch:
             page.last_change = max(scan.start.end.time if scan.start.end else 0, self.now)
-        mine = {*batch}
-        stay = [page for page in found if page and page in mine]
-        if len(stay) > 1 and stay == [page for page in reversed(scan.pages) if page in stay]:
+        stay = sorted((page for page in batch if page in found), key=found.__getitem__)
+        if len(stay) > 1 and stay == sorted((page for page in stay if page in former), key=former.__getitem__, reverse=True):
             self.tallies[Count.REVERSED] += 1
         self._omit_requeued(scan.start, stay, found)
         self._look_for_calls(batch, stay, queue)
@@ -153,15 +170,17 @@ class ScanEvents(QueueMatcher):
     def _take_before(self, scan: Scan) -> None:
         """Emits what scans that still run have done before this one took its pages: they took older ones, none of which was in the queue
         at this scan's start. All take their first batches before any takes a second one."""
-        queue, older = scan.start.queue or [], self._older([*scan.pages[: scan.reach], *scan.split])
+        if not self.scans:
+            return
+        queue, pages, older = scan.start.queue or [], {*scan.pages}, self._older({*scan.pages[: scan.reach], *scan.split})
         waiting = [(number, other, *each) for other in self.scans.values() for number, each in enumerate(other.batches)]
         for _, other, first, count in sorted(waiting, key=itemgetter(0)):
             mine = [page for page in other.pages[first : first + count] if page and page in self.queue]
-            has_room = sum(bool(each.taken) for each in self.scans.values()) < CALLERS - 1
-            if not has_room or not older & {*mine} or any(page in scan.pages for page in mine):
+            has_room = sum(bool(each.taken) for each in self.scans.values()) < MOST_CALLERS - 1
+            if not has_room or older.isdisjoint(mine) or not pages.isdisjoint(mine):
                 continue
             if other.batches[0] != (first, count):
-                self._end_batch(other, [self.at.get(folio) for folio in queue], queue)
+                self._end_batch(other, self._places_in(queue), places_of(other.pages), queue)
             other.taken = self._take(other.start.task, mine)
 
     def _try_batch(self, task: int, taken: list[Page], stay: list[Page]) -> None:
@@ -173,14 +192,14 @@ class ScanEvents(QueueMatcher):
         for page in back:
             self.emit(task, page, "back")
             page.join = None
-        self.queue += stay
-        self.journal_queue += back
+        self.queue.update(dict.fromkeys(stay))
+        self.journal_queue.update(dict.fromkeys(back))
 
-    def _omit_requeued(self, start: Record, stay: list[Page], found: list[Page | None]) -> None:
+    def _omit_requeued(self, start: Record, stay: list[Page], found: Mapping[Page, int]) -> None:
         """Omits a page that a call has queued again. A scan puts its pages back in one step: if another page is between
         them, one was not put back. The scan found it in use and dropped it; a call then unmapped a part of it. Linux 7 puts
         them back one by one: a page that became partly mapped during the scan may then be left out needlessly."""
-        places = [found.index(page) for page in stay]
+        places = [found[page] for page in stay]
         if places and places[-1] - places[0] >= len(places):
             for page in stay:
                 if page.partly_since >= start.time:
@@ -189,10 +208,11 @@ class ScanEvents(QueueMatcher):
     def _add_faulted(self, scan: Scan, queue: list[int]) -> None:
         """Adds pages that joined at their faults after the scan's start was recorded and before it took its pages: it takes
         more than were in the queue then, and these aren't in the queue at its end."""
+        joining, shown, known = {*scan.joining}, {*queue}, {*scan.pages}
         for page in self.queue:
-            is_new = page in scan.joining or page.born >= scan.start.time
-            is_gone = page.folio not in queue and not page.is_freed
-            if not is_new or not is_gone or page in scan.pages or len(scan.pages) >= scan.start.values[0]:
+            is_new = page in joining or page.born >= scan.start.time
+            is_gone = page.folio not in shown and not page.is_freed
+            if not is_new or not is_gone or page in known or len(scan.pages) >= scan.start.values[0]:
                 continue
             if page.is_perhaps_taken or page in self.joining.values() and not page.has_joined:
                 page.is_perhaps_taken = True  # by this scan, or by one before
@@ -202,6 +222,8 @@ class ScanEvents(QueueMatcher):
     def _leave_to_others(self, scan: Scan, queue: list[int]) -> None:
         """Takes pages from a scan that has ended which another one that runs has taken: they have left the queue, and this one has freed
         nothing of them."""
+        if not self.scans:
+            return
         others = {page for other in self.scans.values() for page in other.pages[: other.reach]} - {*scan.split, *scan.taken}
         shown = {*queue}
         scan.pages = [page for page in scan.pages if page is None or page not in others or page.folio in shown or page.is_freed
@@ -216,50 +238,52 @@ class ScanEvents(QueueMatcher):
             if page.is_live and self.is_ending(page):
                 self.end_early(page, queue)
 
-    def _put_between(self, back: list[Page], kernels: list[Page]) -> None:
+    def _put_between(self, back: list[Page], kernels: Mapping[Page, int]) -> None:
         """Gives the pages put back their places among those that joined while the scan ran: Linux 7 puts pages back one by
         one, so that another can join between them."""
-        places = {page: i for i, page in enumerate(kernels)}
-        rest, queue = list(back), []
-        for page in [page for page in self.queue if page not in back]:
-            while rest and places[rest[0]] < places.get(page, -1):
-                queue.append(rest.pop(0))
-            queue.append(page)
-        self.queue = queue + rest
+        queue: Queue = {}
+        rest, those = deque(back), {*back}
+        for page in [page for page in self.queue if page not in those]:
+            while rest and kernels[rest[0]] < kernels.get(page, -1):
+                queue[rest.popleft()] = None
+            queue[page] = None
+        self.queue = {**queue, **dict.fromkeys(rest)}
 
     def _is_too_full(self, page: Page) -> bool:
         """Returns whether what a split gave back is too little for an underused page."""
         given = size(page.freed_frames & page.held)
         return bool(given) and not page.is_freed and given <= (self.underused or page.subpages)
 
-    def _postpone_joins(self, kernels: list[Page], stay: list[Page], taken: Sequence[Page | None]) -> None:
+    def _postpone_joins(self, kernels: Mapping[Page, int], stay: list[Page], taken: AbstractSet[Page | None]) -> None:
         """Moves events of pages that joined while the scan ran, and follow the pages put back, after the scan."""
         if not stay:
             return
-        edge, mine = max(map(kernels.index, stay)), self.queue.index(stay[0])
-        self.move_to_end({page for page in kernels[edge + 1 :] if page in self.queue[:mine] and page not in taken})
+        edge = max(kernels[page] for page in stay)
+        before = takewhile(lambda page: page is not stay[0], self.queue)
+        self.move_to_end({page for page in before if kernels.get(page, -1) > edge and page not in taken})
 
     def _order_by_journal(self, pages: list[Page]) -> list[Page]:
         """Returns the pages of a batch in the journal's order. If others are older there, though not in the kernel's queue, since the
         kernel has put pages back in reverse order (E), all pages of the queue are left out; if it isn't known which are, the older."""
-        mine = [page for page in self.journal_queue if page in pages and not page.is_omitted]
+        own = list_members(self.journal_queue, pages)
+        mine = [page for page in own if not page.is_omitted]
         if {*mine} != self._oldest(self.journal_queue, len(mine)):
             if {*mine} == self._oldest(self.queue, len(mine)):
                 for page in self.queue:
                     self.omit(page, Omission.PART_SCANNED)
             elif self.is_doubted:
-                for page in self._older(pages):
+                for page in self._older({*pages}):
                     self.omit(page, Omission.OVERLAPPED)
-        return [page for page in self.journal_queue if page in pages]
+        return own
 
-    def _oldest(self, queue: list[Page], count: int) -> set[Page]:
+    def _oldest(self, queue: Queue, count: int) -> set[Page]:
         """Returns the oldest pages of a queue that aren't left out."""
-        return {*[page for page in queue if not page.is_omitted][:count]}
+        return {*islice((page for page in queue if not page.is_omitted), count)}
 
-    def _older(self, pages: Collection[Page | None]) -> set[Page]:
+    def _older(self, pages: AbstractSet[Page | None]) -> set[Page]:
         """Returns the pages of the journal's queue that precede one of these pages, and are none of them."""
         last = max((i for i, page in enumerate(self.journal_queue) if page in pages), default=0)
-        return {page for page in self.journal_queue[:last] if page not in pages}
+        return {page for page in islice(self.journal_queue, last) if page not in pages}
 
     def _emit_try(self, task: int, page: Page, stays: bool) -> None:
         """Emits the try of a page that was taken."""
@@ -309,5 +333,5 @@ class ScanEvents(QueueMatcher):
         self.emit(task, page, "split", given=given)
         page.held &= ~given
         page.split = True
-        for mapping in page.maps.values():
+        for mapping in page.maps:
             mapping.whole = False

@@ -86,27 +86,32 @@ class JournalLines:
     def __init__(self) -> None:
         self.latest: list[JournalLine] = []
         self.final = 0  # how many lines went to the file
+        self.more = 0  # lines beyond WINDOW that can be reordered: as many as the queue has pages
         self._file = ScratchFile("the journal")
 
     def add(self, line: JournalLine) -> None:
         """Appends a line, and makes the oldest ones final where there are many more than can be reordered."""
         self.latest.append(line)
-        if len(self.latest) >= WINDOW + SLACK:
-            oldest, self.latest = self.latest[:-WINDOW], self.latest[-WINDOW:]
+        window = WINDOW + self.more
+        if len(self.latest) >= window + SLACK:
+            oldest, self.latest = self.latest[:-window], self.latest[-window:]
             self._file.append_lines(f"{each.time} {each.text}" for each in oldest)
             self.final += len(oldest)
+            for each in oldest:  # pages may have some still
+                each.text, each.time = "", 0
 
     def find(self, line: JournalLine | None) -> int:
         """Returns where a line is among the latest; -1: nowhere."""
         return next((at for at in range(len(self.latest) - 1, -1, -1) if self.latest[at] is line), -1)
 
-    def move_behind(self, line: JournalLine | None, count: int) -> None:
-        """Moves the latest `count` lines behind a line, and to its time, unless that is final."""
-        place, edge = self.find(line), len(self.latest) - count
-        if line is not None and 0 <= place < edge:
+    def move_behind(self, page: int, count: int) -> None:
+        """Moves the latest `count` lines behind the allocation of a page, and to its time, unless that is final."""
+        edge = len(self.latest) - count
+        place = next((at for at in range(edge - 1, -1, -1) if self.latest[at].page == page and " alloc " in self.latest[at].text), -1)
+        if place >= 0:
             moved = self.latest[edge:]
             for each in moved:
-                each.time = line.time
+                each.time = self.latest[place].time
             self.latest[place + 1 :] = moved + self.latest[place + 1 : edge]
 
     def timed_texts(self, omitted: Sequence[int]) -> Iterator[tuple[int, str]]:

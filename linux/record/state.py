@@ -4,36 +4,34 @@ far. Of a freed page one byte remains."""
 from __future__ import annotations
 
 import functools
+import heapq
 import itertools
 import operator
-from bisect import bisect_left, insort
+from array import array
+from bisect import bisect_left, bisect_right
 from collections import Counter as Tallies
-from collections import defaultdict
 from dataclasses import dataclass, field
-from typing import Iterable, Iterator, Sequence
+from typing import Dict, Iterable, Iterator, Sequence
 
 from ..common.files import BASE, PMD_ORDER
-from ..common.journal import FILLING, Event
+from ..common.journal import FILLING, MOST_CALLERS, SMALL_BLOCKS, SMALL_CALLERS, SMALL_NODES, Event
 from ..common.subpages import bits_of, size
 from .reasons import Doubt, Omission, Reason
 from .records import Kind, Record
 from .scratch import JournalLine, JournalLines
 
-MOST_BLOCKS, CALLERS = 4096, 64  # of a journal's node (docs/FORMATS.md)
 FOREVER = 1 << 64
 SPARE_PLACES = 64  # of an address space's former mappings
-SPARE_BLOCKS = 8  # of a journal's node, beyond 5/4 of the pages that lived at once: lines are reordered
+SPARE_BLOCKS = 8  # of a small node, beyond 5/4 of the pages that lived at once: lines are reordered
 
 
-@dataclass(eq=False)
 class Mapping:
     """One address space's mapping of a page: where subpage 0 is, whether by a PMD entry, which subpages, and since when it is there."""
 
-    space: int
-    base: int
-    whole: bool
-    bits: int
-    since: int
+    __slots__ = ("space", "base", "whole", "bits", "since")
+
+    def __init__(self, space: int, base: int, whole: bool, bits: int, since: int) -> None:
+        self.space, self.base, self.whole, self.bits, self.since = space, base, whole, bits, since
 
 
 def union_of(sets: Iterable[int]) -> int:
@@ -41,48 +39,72 @@ def union_of(sets: Iterable[int]) -> int:
     return functools.reduce(operator.or_, sets, 0)
 
 
-@dataclass(eq=False)
 class Page:
-    """A huge page from its allocation on. Sets of subpages are numbers."""
+    """A huge page from its allocation on, recorded at its time `born`. Sets of subpages are numbers; `every`: that of all. `maps`:
+    the mapping of each address space. A running scan has taken it (is_taken), or perhaps, since it joined at its fault
+    (is_perhaps_taken). It isn't in the journal (is_omitted); its contents were looked at (is_seen); a scan tried it (is_tried); a copy of
+    the queue showed it before its task's next record (has_joined). Times: since when it is partly mapped; when a copy first lacked it
+    (missed); when it joined the queue or was put back singly (entered); when the last call that reached it was recorded (last_change).
+    `join`: the event by which it joined the queue."""
 
-    number: int
-    folio: int
-    subpages: int
-    every: int  # all of them
-    held: int
-    born: int  # when its allocation was recorded
-    maps: dict[int, Mapping] = field(default_factory=dict)  # by address space
-    pins: int = 0
-    is_taken: bool = False  # by a scan that runs
-    is_partly_mapped: bool = False
-    partly_since: int = 0  # when that was recorded
-    is_live: bool = True
-    split: bool = False
-    is_omitted: bool = False  # from the journal
-    is_freed: bool = False
-    freed_frames: int = 0
-    written: int = 0
-    first: JournalLine | None = None  # its allocation
-    is_seen: bool = False  # its contents were looked at
-    is_tried: bool = False  # a scan tried it
-    has_joined: bool = False  # a copy of the queue showed it before its task's next record
-    is_perhaps_taken: bool = False  # it joined at its fault while a scan ran, which took it then or not
-    missed: int = 0  # when a copy of the queue first lacked it
-    entered: int = 0  # when it joined the queue, or was put back singly
-    last_change: int = 0  # when the last call that reached it was recorded
-    join: JournalLine | None = None  # the event by which it joined the queue
+    __slots__ = (
+        "number", "folio", "subpages", "every", "held", "born", "maps", "pins", "is_taken", "is_partly_mapped", "partly_since", "is_live",
+        "split", "is_omitted", "is_freed", "freed_frames", "written", "is_seen", "is_tried", "has_joined", "is_perhaps_taken", "missed",
+        "entered", "last_change", "join")
+
+    def __init__(self, number: int, folio: int, subpages: int, every: int, born: int) -> None:
+        self.number, self.folio, self.subpages, self.every, self.held, self.born = number, folio, subpages, every, every, born
+        self.maps: tuple[Mapping, ...] = ()
+        self.pins = self.freed_frames = self.written = self.partly_since = self.missed = self.entered = self.last_change = 0
+        self.is_taken = self.is_perhaps_taken = self.is_partly_mapped = self.split = self.is_freed = False
+        self.is_omitted = self.is_seen = self.is_tried = self.has_joined = False
+        self.is_live = True
+        self.join: JournalLine | None = None
+
+    def mapping_in(self, space: int) -> Mapping | None:
+        """Returns an address space's mapping, if it has one."""
+        return next((mapping for mapping in self.maps if mapping.space == space), None)
 
     def used_subpages(self) -> int:
         """Returns the subpages that are mapped."""
-        return union_of(mapping.bits for mapping in self.maps.values())
+        return union_of(mapping.bits for mapping in self.maps)
 
     def counts(self) -> tuple[int, int, int]:
         """Returns what the kernel counts: mappings by PMD entries, all mappings, subpages that PTEs map. A page below
         their size is mapped by PTEs alone."""
         has_pmd = self.subpages == 1 << PMD_ORDER
-        parts = [mapping.bits for mapping in self.maps.values() if not (has_pmd and mapping.whole)]
+        parts = [mapping.bits for mapping in self.maps if not (has_pmd and mapping.whole)]
         whole = len(self.maps) - len(parts)
         return whole, whole + sum(map(size, parts)), size(union_of(parts))
+
+
+class Space:
+    """An address space's mappings, by their places; some are former ones. `count`: those that aren't."""
+
+    __slots__ = ("number", "bases", "pages", "count")
+
+    def __init__(self, number: int) -> None:
+        self.number, self.count = number, 0
+        self.bases, self.pages = array("Q"), list[Page]()
+
+    def add(self, page: Page, base: int) -> None:
+        """Adds a place of a page."""
+        at = bisect_right(self.bases, base)
+        self.bases.insert(at, base)
+        self.pages.insert(at, page)
+        if len(self.pages) > 2 * self.count + SPARE_PLACES:
+            mappings = self.between()
+            self.bases, self.pages = array("Q", (mapping.base for _, mapping in mappings)), [page for page, _ in mappings]
+
+    def between(self, start: int = 0, end: int = 1 << 64) -> list[tuple[Page, Mapping]]:
+        """Returns the pages that live and are mapped from addresses in a range on, with their mappings, by these."""
+        near = slice(bisect_left(self.bases, max(start, 0)), bisect_left(self.bases, end))
+        found = ((page, base, page.mapping_in(self.number)) for page, base in zip(self.pages[near], self.bases[near]) if page.is_live)
+        return [*{page: (page, mapping) for page, base, mapping in found if mapping and mapping.base == base}.values()]
+
+
+Queue = Dict[Page, None]
+"""Pages in order, oldest first. All changes but those of the order take the same time for any length."""
 
 
 @dataclass(eq=False)
@@ -96,13 +118,13 @@ class Scan:
     batches: list[tuple[int, int]]  # that aren't emitted, as (first, count)
     reach: int  # of the pages, how many it may take
     changes: int  # of the queue, before it
-    split: list[Page] = field(default_factory=list)  # the pages that it has split so far
+    split: Queue = field(default_factory=dict)  # the pages that it has split so far
     taken: list[Page] = field(default_factory=list)  # by the first of these batches, if that is emitted
 
 
 @dataclass(eq=False)
 class State:
-    """What the records so far have shown; a node of a journal (common.journal.Node). Its tries and put-backs are in the order of
+    """What the records so far have shown; a node of a journal. Its tries and put-backs are in the order of
     taking, where the kernel's are reversed (E); with the switch off, its splits keep the frames of mapped subpages (B)."""
 
     order: int
@@ -117,28 +139,38 @@ class State:
     never_mapped: int = 0  # pages
     left_out: int = 0  # pages, for other reasons
     at: dict[int, Page] = field(default_factory=dict)  # the pages that live, by folio
-    queue: list[Page] = field(default_factory=list)  # the kernel's, oldest first
-    journal_queue: list[Page] = field(default_factory=list)  # the journal's, which differs by E
+    queue: Queue = field(default_factory=dict)  # the kernel's
+    journal_queue: Queue = field(default_factory=dict)  # the journal's, which differs by E
     joining: dict[int, Page] = field(default_factory=dict)  # pages that join the queue before their task's next record
-    spaces: dict[int, dict[Page, Mapping]] = field(default_factory=lambda: defaultdict(dict))  # by address space
+    spaces: dict[int, Space] = field(default_factory=dict)
     ends: dict[int, Record] = field(default_factory=dict)  # the next end of each address space that has pages
     pending: dict[tuple[int, Kind], Record] = field(default_factory=dict)  # calls, collapses, copies that run, by task
     scans: dict[int, Scan] = field(default_factory=dict)  # those that run, by task
     is_missing: bool = False  # a scan wasn't followed
     changes: int = 0  # of the queue, but for those by scans
     now: int = 0  # the time of the current record
-    task: int = 0  # and its task
+    task: int = 0  # its task ..
+    space: int = 0  # .. and address space
+    callers: int = 0  # how many of the journal were numbered
     _doubts: list[tuple[Doubt, int, int]] = field(default_factory=list)  # why the queue's order isn't known, from when to when
     _equal: int = 0  # when a copy of the queue was equal to the journal's
-    _places: dict[int, list[tuple[int, int, Page]]] = field(default_factory=lambda: defaultdict(list))  # of pages, also former ones
-    _callers: dict[int, int] = field(default_factory=dict)  # the journal's numbers of tasks
+    _callers: dict[int, tuple[int, int]] = field(default_factory=dict)  # the journal's numbers of tasks, and the address space of each
+    _unused: list[int] = field(default_factory=list)  # the numbers of tasks whose address space has ended, a heap
+    _every: int = 0  # the set of all subpages
     _live: int = 0
     _most: int = 0  # pages that lived at once
 
-    @property
+    def __post_init__(self) -> None:
+        self._every = bits_of(0, 1 << self.order)
+
+    @functools.cached_property
     def blocks(self) -> int:
-        """How many blocks the node needs."""
-        return min(MOST_BLOCKS, self._most * 5 // 4 + SPARE_BLOCKS)
+        """How many blocks the node needs: a small one some more, another as many as its lines, once all are there."""
+        spare = self._most * 5 // 4 + SPARE_BLOCKS
+        if spare <= SMALL_BLOCKS:
+            return spare
+        changes = ((" alloc " in text) - (" freed " in text) for text in self.texts())
+        return max(itertools.accumulate(changes), default=1)
 
     @property
     def fills(self) -> bool:
@@ -191,14 +223,25 @@ class State:
         self.event_counts[word] += 1
 
     def caller_of(self, task: int) -> int:
-        """Returns the journal's number of a task; several may have one."""
-        return self._callers.setdefault(task, len(self._callers) % CALLERS)
+        """Returns the journal's number of a task: the least that none has whose address space hasn't ended, if there is one."""
+        if task not in self._callers:
+            number = heapq.heappop(self._unused) if self._unused else min(self.callers, MOST_CALLERS - 1)
+            self.callers = max(self.callers, number + 1)
+            self._callers[task] = number, self.space if task == self.task else 0
+        return self._callers[task][0]
+
+    def end_callers(self, space: int) -> None:
+        """Forgets the tasks of an address space that has ended, and of none, except those that scan."""
+        for task in [task for task, (_, own) in self._callers.items() if own in (0, space) and task not in self.scans]:
+            heapq.heappush(self._unused, self._callers.pop(task)[0])
 
     def open_batch(self, task: int) -> None:
-        """Gives a task a number that no other task has whose scan has taken pages; there are fewer than CALLERS of these."""
+        """Gives a task a number that no other task has whose scan has taken pages; there are fewer than MOST_CALLERS of these."""
         busy = {self.caller_of(scan.start.task) for scan in self.scans.values() if scan.taken and scan.start.task != task}
         if self.caller_of(task) in busy:
-            self._callers[task] = min({*range(CALLERS)} - busy)
+            number = next(number for number in itertools.count() if number not in busy)
+            self.callers = max(self.callers, number + 1)
+            self._callers[task] = number, self._callers[task][1]
 
     def is_followed(self, folio: int) -> bool:
         """Returns whether the queue is the one of a page's NUMA node."""
@@ -206,46 +249,50 @@ class State:
 
     def new_page(self, task: int, space: int, folio: int, address: int) -> Page:
         """Adds a page that an address space maps whole."""
-        every = bits_of(0, 1 << self.order)
-        page = self.at[folio] = Page(len(self.omitted), folio, 1 << self.order, every, every, self.now)
+        page = self.at[folio] = Page(len(self.omitted), folio, 1 << self.order, self._every, self.now)
         self.omitted.append(False)
-        mapping = Mapping(space, address & -(BASE << self.order), True, every, self.now)
-        self.add_mapping(page, mapping)
+        self.add_mapping(page, Mapping(space, address & -(BASE << self.order), True, self._every, self.now))
         self._live += 1
         self._most = max(self._most, self._live)
         self.emit(task, page, "alloc")
-        page.first = self.lines.latest[-1]
         if self.underused is not None and self.order == PMD_ORDER:
             self.enqueue(page)
         return page
 
     def add_mapping(self, page: Page, mapping: Mapping) -> None:
         """Adds an address space's mapping of a page, or one that has moved."""
-        pages, places = self.spaces[mapping.space], self._places[mapping.space]
-        page.maps[mapping.space] = pages[page] = mapping
-        insort(places, (mapping.base, page.number, page))
-        if len(places) > 2 * len(pages) + SPARE_PLACES:
-            places[:] = sorted((each.base, page.number, page) for page, each in pages.items())
+        space = self.spaces.setdefault(mapping.space, Space(mapping.space))
+        mapping.space = space.number  # one object for all
+        if mapping not in page.maps:
+            self.drop_mapping(page, mapping.space)
+            page.maps += (mapping,)
+            space.count += 1
+        space.add(page, mapping.base)
+
+    def drop_mapping(self, page: Page, space: int) -> None:
+        """Forgets an address space's mapping of a page, if it has one."""
+        left = tuple(mapping for mapping in page.maps if mapping.space != space)
+        if len(left) < len(page.maps) and page.is_live and space in self.spaces:
+            self.spaces[space].count -= 1
+        page.maps = left
 
     def pages_between(self, space: int, start: int, end: int) -> list[Page]:
         """Returns the pages that an address space maps in a range of addresses, by their addresses."""
-        pages, places = self.spaces.get(space, {}), self._places.get(space, [])
-        near = places[bisect_left(places, (start - (BASE << self.order) + 1,)) : bisect_left(places, (end,))]
-        return [*dict.fromkeys(page for base, _, page in near if page in pages and pages[page].base == base)]
+        known = self.spaces.get(space)
+        return [page for page, _ in known.between(start - (BASE << self.order) + 1, end)] if known else []
 
     def enqueue(self, page: Page) -> None:
         """Adds a page to the queue, by the event emitted last."""
         self.changes += 1
         page.entered = self.now
-        self.queue.append(page)
-        self.journal_queue.append(page)
+        self.queue[page] = self.journal_queue[page] = None
+        self.lines.more = len(self.queue)
         page.join = self.lines.latest[-1] if self.lines.latest else None
 
     def dequeue(self, page: Page) -> None:
         """Removes a page from the queue, if it is there."""
-        for queue in (self.queue, self.journal_queue):
-            if page in queue:
-                queue.remove(page)
+        self.queue.pop(page, None)
+        self.journal_queue.pop(page, None)
 
     def omit(self, page: Page, why: Omission) -> None:
         """Leaves a page out of the journal."""
@@ -269,8 +316,9 @@ class State:
         if self.at.get(page.folio) is page:  # another page may have the folio already
             del self.at[page.folio]
         self.dequeue(page)
-        for space in page.maps:
-            self.spaces.get(space, {}).pop(page, None)
+        for mapping in page.maps:
+            if mapping.space in self.spaces:
+                self.spaces[mapping.space].count -= 1
 
     def hold(self, task: int, page: Page) -> None:
         """Emits a pin of a page that something holds, unless it has one."""
@@ -292,7 +340,7 @@ class State:
 
     def ending_spaces(self, page: Page) -> list[int]:
         """Returns the address spaces that map a page and are ending, the first to end first: nothing else of them comes any more."""
-        ends = [(self.ends[space], space) for space in page.maps if space in self.ends]
+        ends = [(self.ends[each.space], each.space) for each in page.maps if each.space in self.ends]
         return [space for end, space in sorted(ends, key=lambda each: each[0].time) if end.link < self.now]
 
     def is_ending(self, page: Page) -> bool:
@@ -305,4 +353,26 @@ class State:
         place = self.lines.find(page.join)
         if page.join and place < 0 and self.lines.final:
             self.omit(page, Omission.TOO_OLD)
+            self.begin_doubt(Doubt.TOO_OLD)
         return place
+
+
+def journal_lines(nodes: Sequence[State]) -> Iterator[str]:
+    """Yields the lines of a journal, in the lowest version that has all of its words and numbers."""
+    version = 2 if any(node.order != PMD_ORDER for node in nodes) else 1
+    if any(node.fills or node.underused is not None for node in nodes):
+        version = 3
+    if len(nodes) > SMALL_NODES or any(node.blocks > SMALL_BLOCKS or node.callers > SMALL_CALLERS for node in nodes):
+        version = 4
+    yield f"thp-journal {version}"
+    for number, node in enumerate(nodes):
+        order = f" order {node.order}" if version > 1 else ""
+        switch = "off" if node.underused is None else str(node.underused)
+        yield f"node {number} blocks {node.blocks}{order}" + (f" underused {switch}" if version > 2 else "")
+        yield from node.texts()
+    yield "end"
+
+
+def journal_text(nodes: Sequence[State]) -> str:
+    """Returns the text of a journal."""
+    return "".join(f"{line}\n" for line in journal_lines(nodes))

@@ -9,11 +9,12 @@ from dataclasses import dataclass, field
 from itertools import groupby, islice, takewhile
 from typing import Iterable, Iterator
 
+from ..common.journal import MOST_CALLERS
 from .calls import list_removals
 from .reasons import Count, Doubt, Omission
 from .records import Batch, Kind, Record
 from .scans import BATCH, ScanEvents, batches_of
-from .state import CALLERS, Page, Scan, union_of
+from .state import Page, Scan, union_of
 
 WALK = 10 ** 7  # ns that a walk of the queue takes at most
 TASK = (1 << 32) - 1  # of a part's key
@@ -88,10 +89,10 @@ class TracedScans(ScanEvents):
             if batch.asked < self.now + WALK and tried and tried.isdisjoint(queue or ()):
                 return
         if queue is not None and self._back and not self.scans:
-            kernels = [page for page in map(self.at.get, queue) if page]
+            kernels = self._places_in(queue)
             back, self._back = {*self._back} & {*self.queue}, []
             stays = [page for page in kernels if page in back]
-            self._postpone_joins(kernels, [page for page in stays if not page.is_omitted], stays)
+            self._postpone_joins(kernels, [page for page in stays if not page.is_omitted], back)
             self._put_between(stays, kernels)
         super().match(queue)
 
@@ -109,7 +110,7 @@ class TracedScans(ScanEvents):
     def _batches_before(self, batch: Batch) -> int:
         """Returns how many of the next batches have begun before this one, if it can be so late: another takes the oldest page."""
         latest = next((asked for _, asked, _ in batch.tries.values()), 0)
-        oldest = self.queue[0].folio if self.queue else 0
+        oldest = next((page.folio for page in self.queue), 0)
         others = takewhile(lambda each: each.begin <= latest, islice(self.batches or (), NEXT))
         return 0 if oldest in batch.tries else next((at + 1 for at, each in enumerate(others) if oldest in each.tries), 0)
 
@@ -130,7 +131,8 @@ class TracedScans(ScanEvents):
         if self.scans and batch.puts_singly:
             self.begin_doubt(Doubt.OVERLAP)
         mine = {*tried}
-        queue = [page for page in self.queue if page in mine or page not in self.joining.values()]
+        joining = {*self.joining.values()}
+        queue = [page for page in self.queue if page in mine or page not in joining]
         reach = max((at + 1 for at, page in enumerate(queue) if page in mine), default=0)
         oldest = queue[: max(count, reach)]
         left = [page for page in oldest if page not in mine][: max(len(oldest) - count, 0)]
@@ -173,7 +175,7 @@ class TracedScans(ScanEvents):
             over[page] = ends[bisect_left(ends, min(next(shown, back), batch.end))]
         journal = self._order_by_journal(pages)
         parts = [(end, [*part]) for end, part in groupby(journal, over.__getitem__)]
-        room = CALLERS - 2 - len(self.scans)
+        room = MOST_CALLERS - 2 - len(self.scans)
         if len(parts) > room:
             parts = [(batch.end, journal)] if room > 0 else []
         for page in pages if not parts else ():
@@ -208,9 +210,11 @@ class TracedScans(ScanEvents):
         self._back += stays
         for page in stays if batch.puts_singly else ():  # others may have come between
             page.entered = batch.tries.get(page.folio, (1, 0, batch.begin))[2]
-            self.queue.remove(page)
+            del self.queue[page]
             later = [*takewhile(lambda each: each.entered > page.entered, reversed(self.queue))]
-            self.queue.insert(len(self.queue) - len(later), page)
+            for each in (page, *reversed(later)):
+                self.queue.pop(each, None)
+                self.queue[each] = None
 
     def _stays(self, page: Page, batch: Batch) -> bool:
         """Returns whether a batch puts a page back: it is partly mapped, and its split failed, or wasn't observed and gave nothing back."""

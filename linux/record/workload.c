@@ -1,12 +1,10 @@
 /* Threads that make, divide and drop huge pages: something for the recorder to see.
  *
- *   workload THREADS STEPS SEED ORDER [zeros] [collapse] [areas]
+ * workload THREADS STEPS SEED ORDER [zeros] [collapse] [areas]
  *
- * Each thread has a few places. In each step it makes a page in an empty place, or drops a part of a page, splits its
- * PMD entry, unmaps it, pins or unpins it, has a child drop a part (with one thread), or sleeps. `zeros`: most subpages
- * of a page stay zero-filled; `collapse`: it also asks for collapses; `areas`: it also replaces a part of a page by a
- * new area, and moves a page.
- */
+ * Each thread has a few places. In each step it makes a page in an empty place, or drops a part of a page, splits its PMD entry, unmaps it,
+ * pins or unpins it, has a child drop a part (with one thread), or sleeps. `zeros`: most subpages of a page stay zero-filled; `collapse`:
+ * it also asks for collapses; `areas`: it also replaces a part of a page by a new area, and moves a page. */
 #define _GNU_SOURCE
 #include <fcntl.h>
 #include <pthread.h>

@@ -2,8 +2,7 @@
 F (any number of passes that fits what a pinned page shows) and G (a page with both kinds of mappings: 0 or 1).
 
 Frames, map counts and queues belong to the script alone: a difference there is raised at once. The counters are of the whole
-machine, and other programs move them too: the first difference there is kept, and no counter is compared afterwards.
-"""
+machine, and other programs move them too: the first difference there is kept, and no counter is compared afterwards."""
 
 from __future__ import annotations
 

@@ -1,14 +1,12 @@
 /* One process that maps at most one huge page, and changes its mappings as the tool asks by a socket.
  *
- *   mapper      standard input: one end of a pair of SOCK_SEQPACKET sockets, whose other end the tool has
+ * mapper      standard input: one end of a pair of SOCK_SEQPACKET sockets, whose other end the tool has
  *
- * No socket has a name, so only the tool can send. A message is a struct command, the reply to it a number of 64 bits, which
- * is negative if the command failed: -errno. When the tool shuts its end, also by being killed, the process drops its page and
- * its pins, and then ends.
+ * No socket has a name, so only the tool can send. A message is a struct command, the reply to it a number of 64 bits, which is negative if
+ * the command failed: -errno. When the tool shuts its end, also by being killed, the process drops its page and its pins, and then ends.
  *
- * Rights: the process keeps user 0, but drops every capability and cannot gain one. As a user that others have, too, it could
- * be stopped or killed by each of that user's processes; of user 0 no unprivileged process can signal or trace it.
- */
+ * Rights: the process keeps user 0, but drops every capability and cannot gain one. As a user that others have, too, it could be stopped or
+ * killed by each of that user's processes; of user 0 no unprivileged process can signal or trace it. */
 #define _GNU_SOURCE
 #include <errno.h>
 #include <fcntl.h>

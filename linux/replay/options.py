@@ -34,12 +34,10 @@ def parse_words(given: Sequence[str] | None = None) -> argparse.Namespace:
     parser.add_argument("--program", metavar="PATH", help="the thpsplit to compare with")
     parser.add_argument("--no-memory", action="store_true", help="leave kernel memory, and so the queues, unread")
     parser.add_argument("--wait", action="store_true", help="wait until another tool has ended")
-    parser.add_argument("script", nargs="*",
-                        help="scripts (-: standard input); their settings are in the first line")
+    parser.add_argument("script", nargs="*", help="scripts (-: standard input); their settings are in the first line")
     for name in SETTINGS:
         parser.add_argument(f"--{name}", help="as for thpsplit, for scripts that are files")
-    parser.add_argument("--random", type=whole(0, MOST_SCRIPTS), default=0, metavar="COUNT",
-                        help="run COUNT random scripts")
+    parser.add_argument("--random", type=whole(0, MOST_SCRIPTS), default=0, metavar="COUNT", help="run COUNT random scripts")
     parser.add_argument("--seed", type=whole(0, MOST_SEED), default=1)
     parser.add_argument("--node-counts", default="1,1,1,2,4", metavar="LIST", type=wholes(1, MOST_NODES),
                         help="random scripts draw from it")
@@ -61,8 +59,7 @@ def parse_words(given: Sequence[str] | None = None) -> argparse.Namespace:
     parser.add_argument("--json", action="store_true", help="print JSON, a document a line")
     parser.add_argument("--undo", action="store_true", help="put back what a killed run left; nothing is run")
     parser.add_argument("-v", "--verbose", action="store_true", help="print each command")
-    parser.add_argument("-q", "--quiet", action="store_true",
-                        help="print what differs or is inconclusive, and the sums")
+    parser.add_argument("-q", "--quiet", action="store_true", help="print what differs or is inconclusive, and the sums")
     return parser.parse_args(given)
 
 

@@ -57,8 +57,7 @@ class Runner:
         self.sums: Tallies[str] = Tallies()
 
     def run(self, script: Script, zero_filled: bool | None = None) -> Outcome:
-        """Runs one script. `zero_filled`: whether new pages stay so; by default where some node splits underused
-        pages."""
+        """Runs one script. `zero_filled`: whether new pages stay so; by default where some node splits underused pages."""
         if zero_filled is None:
             zero_filled = any(switch is not None for switch in script.options.underused)
         watch = CounterWatch(script.options.orders)

@@ -1,7 +1,6 @@
 """Makes a script that differs small: commands, pages and numbers are taken away while it differs in the same way.
 
-Each step is a run, so what counts is what the kernel shows of the smaller script, not what is expected of it.
-"""
+Each step is a run, so what counts is what the kernel shows of the smaller script, not what is expected of it."""
 
 from __future__ import annotations
 
@@ -48,9 +47,7 @@ class SmallScript:
 class Shrinker:
     """Makes scripts small by runs. Of the scripts of a run only the first of each kind of difference is made small."""
 
-    def __init__(
-        self, run: Callable[[Script], Outcome], seconds: float = SECONDS, clock: Callable[[], float] = time.monotonic
-    ) -> None:
+    def __init__(self, run: Callable[[Script], Outcome], seconds: float = SECONDS, clock: Callable[[], float] = time.monotonic) -> None:
         self._run, self._seconds, self._clock = run, seconds, clock
         self._kinds: set[str] = set()
 

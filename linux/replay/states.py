@@ -1,6 +1,5 @@
 """What a script is compared by: what the kernel shows after a command, the known differences by letter (docs/LINUX.md), and a
-node by its journal: map counts, frames, the queue, and what is counted in the model's way and in the kernel's.
-"""
+node by its journal: map counts, frames, the queue, and what is counted in the model's way and in the kernel's."""
 
 from __future__ import annotations
 

@@ -6,8 +6,7 @@
     splits-pinned     a pinned page is split
     forgets-free      a free is reported as a stay
 
-The tools run their programs with an environment of their own: `inject_bug` makes a program that sets the variable.
-"""
+The tools run their programs with an environment of their own: `inject_bug` makes a program that sets the variable."""
 
 from __future__ import annotations
 
@@ -39,7 +38,7 @@ class BackAtHead(Node):
         kept: Callable[[int], str] = super().returned
 
         def returned(caller: int) -> str:
-            self.flight(caller).insert(0, self.flight(caller).pop())
+            self.flight(caller).move_to_end(next(reversed(self.flight(caller))), last=False)
             return kept(caller)
 
         setattr(self, "returned", returned)

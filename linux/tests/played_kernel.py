@@ -1,8 +1,7 @@
 """A kernel's queue and a few threads, played step by step in a random order, with the records that the trace programs send.
 
 Rules: mm/huge_memory.c of the kernel (deferred_split_folio, deferred_split_scan). Linux 7 puts pages back one by one as it
-tries them, older kernels all at a scan's end.
-"""
+tries them, older kernels all at a scan's end."""
 
 from __future__ import annotations
 
@@ -48,8 +47,7 @@ class PlayedKernel:
     twice       a page joins the queue twice
     foreign     a page of another group joins too
     double      a split gives back a frame twice
-    taken       a page is freed while a scan holds it
-    """
+    taken       a page is freed while a scan holds it"""
 
     def __init__(self, seed: int, one_by_one: bool, threshold: int | None, threads: int = 3, bug: str = "", scanners: int = 1) -> None:
         self.chance = random.Random(seed)

@@ -4,8 +4,7 @@
 The programs and their packages of Debian 12 are in linux/tests/programs/debian.txt, a line each; what they read is made by inputs.txt
 beside it. All memory may be of huge pages; the group is reclaimed four times a second. A program that isn't installed is skipped, and its
 package named. Prints each verdict, and at the end for each class how many were legal, and how many of their pages were followed: the
-table in docs/LINUX.md. Takes about 30 minutes.
-"""
+table in docs/LINUX.md. Takes about 30 minutes."""
 
 from __future__ import annotations
 

@@ -2,8 +2,7 @@
 
 Programs that are traced and killed, files that another user has prepared, folders that pretend to be control groups, namespaces,
 environments, closed and full streams, limits, packages that unpack to gigabytes, and signals at random moments. THPSPLIT and THPCHECK
-name the proved programs, by default the plain ones of this folder.
-"""
+name the proved programs, by default the plain ones of this folder."""
 
 from __future__ import annotations
 
@@ -46,10 +45,7 @@ OUTPUTS = (
     [*RECORDING, "--out"],
     [*RECORDING, "--records"],
 )
-FOLDERS = (
-    [WHATIF, "verify", "--wait", "--pages", "2", "--thresholds", "0", "--keep"],
-    [*REPLAYING, "--keep"],
-)
+FOLDERS = ([WHATIF, "verify", "--wait", "--pages", "2", "--thresholds", "0", "--keep"], [*REPLAYING, "--keep"])
 PIPES: dict[str, Any] = {"stdin": subprocess.DEVNULL, "stdout": subprocess.PIPE, "stderr": subprocess.PIPE}
 LIMITS = {
     resource.RLIMIT_NOFILE: (3, 5, 8, 11, 14, 17, 20), resource.RLIMIT_FSIZE: (0, 100),

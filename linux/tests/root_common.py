@@ -1,6 +1,5 @@
 """One tool at a time, which changes nothing where it lacks what it needs, and settings come first (root). A small tool of this file changes
-settings and makes groups. That they are put back whoever is killed is in test_common.py, and with the kernel's own in root_attacks.py.
-"""
+settings and makes groups. That they are put back whoever is killed is in test_common.py, and with the kernel's own in root_attacks.py."""
 
 from __future__ import annotations
 

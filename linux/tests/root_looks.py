@@ -1,7 +1,6 @@
 """Processes and control groups that hide from a look of thpwhatif, hold it up, or change under it (root).
 
-Looks are taken in this process, as `thpwhatif now` takes them, beside the programs of hostile_pages.c and attacks/fuse_holder.c.
-"""
+Looks are taken in this process, as `thpwhatif now` takes them, beside the programs of hostile_pages.c and attacks/fuse_holder.c."""
 
 from __future__ import annotations
 

@@ -3,8 +3,7 @@
 Each test records a workload, has `thpcheck --script` write the journal's script, and runs that. It passes if the script's scans split as
 many pages as the recorded ones, and give back as many frames. A line has these numbers, the events of the recording, and the pins that
 the recorder inferred; it ends in `exact` if the script's journal is the recording's, except for callers and blocks. Else the messages of
-`thpcheck` follow, and the first line that differs. A test whose workload isn't installed is skipped. Takes about two minutes.
-"""
+`thpcheck` follow, and the first line that differs. A test whose workload isn't installed is skipped. Takes about two minutes."""
 
 from __future__ import annotations
 

@@ -2,8 +2,7 @@
 
 Names with any bytes, thousands of locked areas, hundreds of forks, pages given to MADV_FREE, missing capabilities, the
 capabilities of thpwhatif.service, a PID namespace, noise beside `verify`, few descriptors, and a GiB of huge pages within a limit of
-memory. The programs are those of hostile_pages.c.
-"""
+memory. The programs are those of hostile_pages.c."""
 
 from __future__ import annotations
 

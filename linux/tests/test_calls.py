@@ -89,7 +89,7 @@ class AreasTest(JournalCase):
         records = self.move(ELSEWHERE)
         records.call((MADVISE, ELSEWHERE + 8 * BASE, 8 * BASE, DONTNEED), [folio_of(0)])
         builder = self.check(records, "alloc 0; splitpmd 0; unmapsub 0 8 8 queued -")
-        self.assertEqual([mapping.base for mapping in builder.spaces[SPACE].values()], [ELSEWHERE])
+        self.assertEqual([mapping.base for _, mapping in builder.spaces[SPACE].between()], [ELSEWHERE])
 
     def test_a_page_that_moves_into_two_page_tables(self) -> None:
         records = self.move(ELSEWHERE + 256 * BASE)

@@ -14,13 +14,13 @@ from unittest import mock
 from ..common import checker as checkers, program as programs
 from ..common.checker import Checker, JournalChecker, find_checker
 from ..common.errors import DIFFERS, DONE, INCONCLUSIVE, SKIPPED, InputFault, Unavailable
-from ..common.journal import journal_of, journal_text
+from ..common.journal import SMALL_BLOCKS, journal_of
 from ..common.program import Program
 from ..record.reasons import Doubt, Reason
 from ..record.recorder import Recording
 from ..record.report import JournalFile, Report
 from ..record.scans import BATCH
-from ..record.state import MOST_BLOCKS
+from ..record.state import journal_text
 from .cases import PLAIN, PLAIN_CHECKER, FolderCase
 from .written_records import JournalCase, WrittenRecords, read_recording, store_records
 
@@ -80,10 +80,11 @@ class VerdictsTest(JournalCase):
         self.assertEqual(status, INCONCLUSIVE)
         self.assertIn("1 pages weren't followed", text)
 
-    def test_more_pages_than_a_journal_has_blocks(self) -> None:
-        status, text = self.report(WrittenRecords("; ".join(f"page {number}" for number in range(MOST_BLOCKS + 1))))
-        self.assertEqual(status, INCONCLUSIVE)
-        self.assertIn(f"line {MOST_BLOCKS + 3} would be illegal, but for {Doubt.MANY_PAGES.text}", text)
+    def test_more_pages_than_former_versions_have_blocks(self) -> None:
+        for count, head in ((SMALL_BLOCKS, "thp-journal 1"), (SMALL_BLOCKS + 1, "thp-journal 4")):
+            builder = self.build(store_records(WrittenRecords("; ".join(f"page {number}" for number in range(count))).records))
+            self.assertEqual((journal_text([builder]).split("\n")[0], builder.blocks), (head, count))
+            self.check_legal(builder)
 
     def test_nothing(self) -> None:
         self.assertEqual(self.report(WrittenRecords())[0], SKIPPED)

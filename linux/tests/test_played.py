@@ -6,9 +6,9 @@ from __future__ import annotations
 import itertools
 from typing import Sequence
 
-from ..common.journal import journal_text
 from ..common.program import Program
 from ..record.reasons import Count
+from ..record.state import journal_text
 from .played_kernel import PlayedKernel, PlayedPage
 from .written_records import PLAIN, JournalCase, WrittenRecords, store_records, words_of
 

@@ -9,15 +9,15 @@ from collections.abc import Sequence
 from contextlib import closing
 from unittest import mock
 
-from ..common.journal import journal_text
 from ..record import scratch
 from ..record.journal_builder import JournalBuilder
 from ..record.reasons import Count, Omission, Reason
-from ..record.records import QUEUE_MOST, Kind, parse_record
+from ..record.records import QUEUE_MOST, Kind, Store, parse_record
 from ..record.report import JournalFile
 from ..record.scans import batches_of
+from ..record.state import journal_text
 from .cases import ROOT
-from .written_records import JournalCase, WrittenRecords, folio_of, pack_record, read_recording, store_records, words_of
+from .written_records import JournalCase, WrittenRecords, folio_of, pack_parts, pack_record, read_recording, store_records, words_of
 
 PARTLY = "alloc 0; splitpmd 0; unmapsub 0 0 8 queued -"  # of a page that is divided
 GONE = "alloc 0; unmapwhole 0 freed 0-511"
@@ -138,6 +138,20 @@ class RecordsTest(unittest.TestCase):
             found = parse_record(pack_record(records.records[0]))
             self.assertEqual((found.kind, found.values[0], found.queue), (kind, 5, wanted))
         self.assertEqual(QUEUE_MOST, 2000)
+
+    def test_long_queues(self) -> None:
+        """One has the pages in its parts, unless one is missing; those of a walk that didn't end are no other's."""
+        long, short = [*range(1, 2 * QUEUE_MOST + 2)], [*range(1, QUEUE_MOST + 1)]
+        for given, kept, wanted in ((long, slice(0, None), long), (long[:-1], slice(0, None), long[:-1]), (long, slice(1, None), None),
+                                    (short, slice(0, None), short), (None, slice(0, None), None)):
+            records, parts = WrittenRecords(), WrittenRecords()
+            records.add(Kind.EXIT, [5], given)
+            parts.add(Kind.SCAN, [5], long)
+            with closing(Store()) as store:
+                for raw in (*pack_parts(parts.records[0]), *pack_parts(records.records[0])[kept], pack_record(records.records[0])):
+                    store.add(raw)
+                store.link()
+                self.assertEqual([found.queue for found in store.records()], [wanted])
 
 
 class StoredTest(JournalCase):

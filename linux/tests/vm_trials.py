@@ -3,12 +3,10 @@ of its own, into linux/out/kernels; those that are there are used again.
 
     python3 linux/tests/run.py -p vm_trials.py [-k bookworm]
 
-On each kernel the programs that read queues and those of the recorder load, random scripts agree, queues among them, readers of
-queues with injected bugs are found, a recording is legal and as observed, and docs/LINUX.md has the kernel's column of differences.
-Where libthp and setpriv are, thpwhatif (Linux 6.12) needs three capabilities, and names each that is missing.
-The judges are thpsplit and thpcheck where they are built, else the plain reading of the model. A kernel that can't be
-had is skipped, and named.
-"""
+On each kernel the programs that read queues and those of the recorder load, random scripts agree, queues among them, readers of queues with
+injected bugs are found, a recording is legal and as observed, and docs/LINUX.md has the kernel's column of differences. Where libthp and
+setpriv are, thpwhatif (Linux 6.12) needs three capabilities, and names each that is missing. The judges are thpsplit and thpcheck where
+they are built, else the plain reading of the model. A kernel that can't be had is skipped, and named."""
 
 from __future__ import annotations
 

@@ -10,12 +10,12 @@ from contextlib import closing
 from pathlib import Path
 from typing import List, Sequence, Union
 
-from ..common.journal import journal_text
 from ..common.program import Program
 from ..record.calls import MADVISE, MUNMAP
 from ..record.journal_builder import JournalBuilder
 from ..record.reasons import PROVED, Count, Omission
-from ..record.records import HEAD, IN_FAULT, SET, TORN, Kind, Record, Store
+from ..record.records import HEAD, IN_FAULT, QUEUE_MOST, SET, TORN, Kind, Record, Store
+from ..record.state import journal_text
 
 SPACE, TASK, OTHER, DAEMON = 0xA000, 7, 12, 90  # an address space and two of its tasks; one of no group, which scans or collapses
 HUGE, BASE, DONTNEED = 1 << 21, 4096, 4
@@ -131,15 +131,24 @@ def pack_record(record: Record) -> bytes:
     else:
         queue = record.queue or []
         mark = queue.index(record.foreign) + 1 << 32 if record.foreign else 0
-        rest, count = struct.pack(f"<{len(queue)}Q", *queue), TORN if record.queue is None else len(queue) | mark
+        last = queue[(len(queue) - 1) // QUEUE_MOST * QUEUE_MOST :]
+        rest, count = struct.pack(f"<{len(last)}Q", *last), TORN if record.queue is None else len(queue) | mark
     return HEAD.pack(record.kind, record.time, record.task, record.space, *record.values, 0, count, 0) + rest
+
+
+def pack_parts(record: Record) -> list[bytes]:
+    """Returns the parts of a long queue, which precede its record."""
+    queue = record.queue or []
+    return [HEAD.pack(Kind.PART, record.time, record.task, record.space, *record.values, first, QUEUE_MOST, 0)
+            + struct.pack(f"<{QUEUE_MOST}Q", *queue[first : first + QUEUE_MOST]) for first in range(0, len(queue) - QUEUE_MOST, QUEUE_MOST)]
 
 
 def store_records(records: Sequence[Record]) -> Store:
     """Returns a store of records, linked."""
     store = Store()
     for record in records:
-        store.add(pack_record(record))
+        for raw in (*pack_parts(record), pack_record(record)):
+            store.add(raw)
     store.link()
     return store
 

@@ -1,7 +1,6 @@
 """The guest's initial file system, an archive of cpio's form newc: this machine's Python, the tools with their helpers and
 programs, a few commands, and the files that the caller names. Each file is at its path, so that the words of a command mean
-the same in the guest, and is root's. Rules of the archive: Documentation/driver-api/early-userspace/buffer-format.rst of the kernel.
-"""
+the same in the guest, and is root's. Rules of the archive: Documentation/driver-api/early-userspace/buffer-format.rst of the kernel."""
 
 from __future__ import annotations
 

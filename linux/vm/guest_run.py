@@ -2,8 +2,7 @@
 
 The kernel, the file system and both serial lines are descriptors without names, so nothing is left on the machine after
 any end. qemu has no network, no disk and no rights: where this tool is root, it runs as a user without any. The kernel ends it
-with this tool (PR_SET_PDEATHSIG). The guest sends messages (init.py), and has a console; its bytes are anybody's.
-"""
+with this tool (PR_SET_PDEATHSIG). The guest sends messages (init.py), and has a console; its bytes are anybody's."""
 
 from __future__ import annotations
 

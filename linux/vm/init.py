@@ -9,8 +9,7 @@ It sends messages over the second serial line: a letter, the length of the conte
     L   the kernel lacks something: what it is
     S   the status, at the end
 
-Nothing of the package is imported, so that the guest needs little of it before its file systems are mounted.
-"""
+Nothing of the package is imported, so that the guest needs little of it before its file systems are mounted."""
 
 from __future__ import annotations
 

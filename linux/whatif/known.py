@@ -4,8 +4,7 @@
 
 Pages are of PMD size and smaller; each is filled in part, and what befalls it is by chance. The process prints `look` at most once, where
 the shrinker is to look at the pages that are there, so that they leave the queue or are split, and waits for a line. Then it prints
-`ready` and stays.
-"""
+`ready` and stays."""
 
 from __future__ import annotations
 

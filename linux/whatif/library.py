@@ -48,8 +48,7 @@ class PagePlan(NamedTuple):
 
 
 def plan_page(folio: Folio, locked_are_tried: bool = False) -> PagePlan:
-    """Returns the plan of a page. `locked_are_tried`: the shrinker tries locked pages, as before Linux 6.18. Raises
-    NotPredictable."""
+    """Returns the plan of a page. `locked_are_tried`: the shrinker tries locked pages, as before Linux 6.18. Raises NotPredictable."""
     if folio.is_lazily_freed:
         raise NotPredictable(LAZILY_FREED)
     whole = folio.known_pmd_mappings if folio.whole is None else folio.whole

@@ -2,8 +2,7 @@
 contain), what couldn't be read, and what was left out and why.
 
 Rules: include/linux/mm_types.h (struct folio), include/linux/page-flags.h (PG_partially_mapped of the second page),
-mm/huge_memory.c (folio_expected_ref_count: a reference for each mapping; any more are pins).
-"""
+mm/huge_memory.c (folio_expected_ref_count: a reference for each mapping; any more are pins)."""
 
 from __future__ import annotations
 

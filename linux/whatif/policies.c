@@ -4,9 +4,8 @@
  * removes it. The journal is legal: the caller has checked it. Other lines do nothing.
  *
  * Pages can differ from the recorded ones in one way: they are split earlier, later or never. A page that is split here alone takes PTE
- * calls instead of PMD calls, and no pins and contents. One that was split there alone gets its PMD mappings split where the journal
- * unmaps parts of it. A range that is refused is done subpage by subpage, where each can be.
- */
+ * calls instead of PMD calls, and no pins and contents. One that was split there alone gets its PMD mappings split where the journal unmaps
+ * parts of it. A range that is refused is done subpage by subpage, where each can be. */
 #include <stdbool.h>
 #include <stdlib.h>
 #include <string.h>
@@ -19,13 +18,12 @@ static const char *const words[OTHERS] = {"alloc", "unmapwhole", "unmapsub", "un
 
 /* When scans come: where the journal has tried all pages that it took, of as many; never; each `amount` seconds; after each call that
  * leaves `amount` frames held, or more. The last two take all that are queued. */
-enum { RECORDED, NEVER, SECONDS, HELD };
+enum { RECORDED, NEVER, SECONDS, HELD, CALLER = 0 }; /* the caller of all calls: the journal's decides only which batch a try is of */
 
 struct event {
     uint64_t page;
     uint32_t word;
-    uint8_t caller;
-    uint16_t first, count;
+    uint16_t caller, first, count;
 };
 
 /* The numbers of a run. Frames are base pages. */
@@ -45,7 +43,7 @@ struct run {
     thp_stats stats; /* since frames or queue last changed */
     uint32_t subpages, when;
     double amount;
-    struct { uint32_t taken, tried; } batches[UINT8_MAX + 1]; /* of the journal, by caller, until its pages are tried */
+    struct { uint32_t taken, tried; } batches[UINT16_MAX + 1]; /* of the journal, by caller, until its pages are tried */
     double now, last_scan; /* -1: before the first event */
     struct sums sums;
 };
@@ -79,7 +77,7 @@ static void wait_until(struct run *run, double until) {
 }
 
 /* Scans for a caller of the journal, where it has tried all that it took, or its batch `is_over`: some were freed. */
-static void end_batch(struct run *run, uint8_t caller, bool is_over) {
+static void end_batch(struct run *run, uint32_t caller, bool is_over) {
     uint32_t tried = run->batches[caller].tried;
     if (!tried || !(is_over || tried == run->batches[caller].taken)) return;
     scan(run, tried);
@@ -107,17 +105,16 @@ static void pass_time(struct run *run, double until) {
 /* Makes a call about a page, as the journal has it. */
 static thp_code make_call(thp_node *node, const struct event *event) {
     thp_done done;
-    uint32_t caller = event->caller;
     switch (event->word) {
-    case MAPWHOLE: return thp_node_map_whole(node, caller, event->page);
-    case UNMAPWHOLE: return thp_node_unmap_whole(node, caller, event->page, &done);
-    case MAPSUB: return thp_node_map_sub(node, caller, event->page, event->first, event->count);
-    case UNMAPSUB: return thp_node_unmap_sub(node, caller, event->page, event->first, event->count, &done);
-    case SPLITPMD: return thp_node_split_pmd(node, caller, event->page);
-    case PIN: return thp_node_pin(node, caller, event->page);
-    case UNPIN: return thp_node_unpin(node, caller, event->page, &done);
-    case WRITE: return thp_node_write(node, caller, event->page, event->first, event->count);
-    default: return thp_node_zero(node, caller, event->page, event->first, event->count);
+    case MAPWHOLE: return thp_node_map_whole(node, CALLER, event->page);
+    case UNMAPWHOLE: return thp_node_unmap_whole(node, CALLER, event->page, &done);
+    case MAPSUB: return thp_node_map_sub(node, CALLER, event->page, event->first, event->count);
+    case UNMAPSUB: return thp_node_unmap_sub(node, CALLER, event->page, event->first, event->count, &done);
+    case SPLITPMD: return thp_node_split_pmd(node, CALLER, event->page);
+    case PIN: return thp_node_pin(node, CALLER, event->page);
+    case UNPIN: return thp_node_unpin(node, CALLER, event->page, &done);
+    case WRITE: return thp_node_write(node, CALLER, event->page, event->first, event->count);
+    default: return thp_node_zero(node, CALLER, event->page, event->first, event->count);
     }
 }
 
@@ -127,10 +124,10 @@ static void make_otherwise(struct run *run, const struct event *event, const thp
     bool is_whole = event->word == MAPWHOLE || event->word == UNMAPWHOLE, maps = event->word == MAPWHOLE || event->word == MAPSUB;
     uint32_t first = is_whole ? 0 : event->first, end = is_whole ? run->subpages : first + event->count;
     if (!maps && page->whole_mapcount) /* PMD mappings that the journal's page had no more */
-        demand(run, thp_node_split_pmd(&run->node, event->caller, event->page));
+        demand(run, thp_node_split_pmd(&run->node, CALLER, event->page));
     for (; first < end && done.outcome != THP_FREED; first++) {
-        thp_code code = maps ? thp_node_map_sub(&run->node, event->caller, event->page, first, 1)
-                             : thp_node_unmap_sub(&run->node, event->caller, event->page, first, 1, &done);
+        thp_code code = maps ? thp_node_map_sub(&run->node, CALLER, event->page, first, 1)
+                             : thp_node_unmap_sub(&run->node, CALLER, event->page, first, 1, &done);
         if (code == THP_OUT_OF_MEMORY) demand(run, code);
     }
 }
@@ -157,8 +154,8 @@ static void follow(struct run *run, const struct event *event) {
         end_batch(run, event->caller, false);
         return;
     }
-    if (event->word == ALLOC) demand(run, thp_node_alloc(&run->node, event->caller, &page));
-    else if (event->word == CLOSE) demand(run, thp_node_close(&run->node, event->caller));
+    if (event->word == ALLOC) demand(run, thp_node_alloc(&run->node, CALLER, &page));
+    else if (event->word == CLOSE) demand(run, thp_node_close(&run->node, CALLER));
     else call_page(run, event);
     if (event->word <= UNPIN) look(run);
     if (run->when == HELD && (double)run->stats.frames_held >= run->amount && run->stats.queued) scan(run, run->stats.queued);
@@ -175,7 +172,7 @@ static uint64_t read_number(const char **at) {
 
 /* Reads the event of a line, and moves to the next line. */
 static struct event read_event(const char **at) {
-    struct event event = {.caller = (uint8_t)read_number(at)};
+    struct event event = {.caller = (uint16_t)read_number(at)};
     size_t size = strcspn(*at, " \n");
     while (event.word < OTHERS && (strncmp(*at, words[event.word], size) || words[event.word][size])) event.word++;
     *at += size + ((*at)[size] == ' ');
@@ -189,9 +186,10 @@ static struct event read_event(const char **at) {
 
 /* Makes a run of a node; null where that isn't possible. */
 struct run *start_run(uint32_t blocks, uint32_t order, uint32_t threshold, uint32_t when, double amount) {
-    struct run *run = malloc(sizeof *run);
+    struct run *run = calloc(1, sizeof *run); /* most of which stays untouched */
     if (!run) return NULL;
-    *run = (struct run){.node = THP_NODE_INIT, .subpages = 1U << order, .when = when, .amount = amount, .now = -1};
+    run->node = (thp_node)THP_NODE_INIT;
+    run->subpages = 1U << order, run->when = when, run->amount = amount, run->now = -1;
     if (threshold >= run->subpages) threshold = THP_UNDERUSED_OFF;
     demand(run, thp_node_create_counting(&run->node, blocks, order, threshold));
     if (run->code == THP_OK) return run;
@@ -215,7 +213,7 @@ thp_code follow_lines(struct run *run, const char *text, const double *times, ui
 
 /* Ends a run; stores its numbers. */
 void end_run(struct run *run, struct sums *sums) {
-    for (uint32_t caller = 0; caller <= UINT8_MAX; caller++) end_batch(run, (uint8_t)caller, true);
+    for (uint32_t caller = 0; caller <= UINT16_MAX; caller++) end_batch(run, caller, true);
     *sums = run->sums;
     sums->split = run->stats.split_page;
     sums->failed += run->stats.split_page_failed;

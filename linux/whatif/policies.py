@@ -1,7 +1,6 @@
 """What a recorded workload would have given back under other policies: another threshold, and other scans.
 
-policies.c, in the library of the predictions, repeats the lines of a journal on nodes of libthp, once for each policy.
-"""
+policies.c, in the library of the predictions, repeats the lines of a journal on nodes of libthp, once for each policy."""
 
 from __future__ import annotations
 
@@ -28,7 +27,7 @@ RECORDED, OFF, NEVER = "recorded", "off", "never"
 WHEN = (RECORDED, NEVER, "seconds", "held")  # as policies.c numbers them
 AMOUNTS = (0.001, 1e9)  # of seconds and held
 HEAD = re.compile(rb"^([^0-9].*\n)", re.MULTILINE)  # a line that is no event
-NODE = re.compile(rb"node [0-7] blocks ([0-9]{1,4})(?: order ([2-9]))?(?: underused (off|[0-9]{1,3}))?\n")
+NODE = re.compile(rb"node [0-9]{1,5} blocks ([0-9]{1,8})(?: order ([2-9]))?(?: underused (off|[0-9]{1,3}))?\n")
 NO_THRESHOLD = (1 << 32) - 1  # of policies.c
 LATEST = 1e10  # seconds
 LINE, TIME = 1 << 16, 64  # bytes of a line of a journal, and of one of times

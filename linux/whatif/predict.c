@@ -7,8 +7,7 @@
  * Where the kernel differs from the model, the state is that of the kernel's rule, so no number is corrected afterwards (docs/WHATIF.md has
  * all): a scan drops a page that is in no queue first (mm/huge_memory.c: deferred_split_scan). With max_ptes_none 511, or a threshold that
  * its subpages can't exceed, no page is underused (thp_underused): it counts as data, unless it is partly mapped; then a split drops its
- * zeros with any threshold (mm/migrate.c: try_to_map_unused_to_zeropage), while a node without a threshold never drops them.
- */
+ * zeros with any threshold (mm/migrate.c: try_to_map_unused_to_zeropage), while a node without a threshold never drops them. */
 #include <stdbool.h>
 #include <thp.h>
 

@@ -1,8 +1,7 @@
 """Predicts what the shrinker would do with the pages of looks: rows, each the sums of pages at a threshold.
 
 A row of threshold T is what a reclaim that drains the queues would do with max_ptes_none T. `off` is 511, with
-which the kernel takes no page as underused (mm/huge_memory.c: thp_underused) and splits partly mapped pages alone.
-"""
+which the kernel takes no page as underused (mm/huge_memory.c: thp_underused) and splits partly mapped pages alone."""
 
 from __future__ import annotations
 

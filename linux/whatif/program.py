@@ -19,9 +19,7 @@ from .library import load_library
 from .look import ProcessChoice, Snapshot, SnapshotTaker
 from .options import NAME, parser
 from .predictor import FRAMES_A_MEBIBYTE, OFF, Predictor, label
-from .report import (
-    Report, cost_table, group_table, last_line, lines_of_look, process_table, report_of, shares_json, table,
-)
+from .report import (Report, cost_table, group_table, last_line, lines_of_look, process_table, report_of, shares_json, table)
 
 
 @contextmanager

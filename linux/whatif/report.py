@@ -150,8 +150,7 @@ def group_table(groups: Mapping[str, Sequence[Row]]) -> str:
 
 
 def process_table(shares: Mapping[int, Mapping[int, Share]], names: Mapping[int, str]) -> str:
-    """Returns a line for each process: its huge pages, then MiB back by threshold; most pages first. `shares`: by
-    threshold."""
+    """Returns a line for each process: its huge pages, then MiB back by threshold; most pages first. `shares`: by threshold."""
     lines: list[list[object]] = [["process", "name", "pages", *(label(threshold) for threshold in shares)]]
     first: Mapping[int, Share] = next(iter(shares.values()), {})
     for process in sorted(first, key=lambda number: (-first[number].pages, number)):

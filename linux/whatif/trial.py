@@ -2,8 +2,7 @@
 which frames came back.
 
 The plain reading, `given_back`, shares no code with the prediction: mm/huge_memory.c (deferred_split_scan, thp_underused, split_folio),
-mm/migrate.c (try_to_map_unused_to_zeropage).
-"""
+mm/migrate.c (try_to_map_unused_to_zeropage)."""
 
 from __future__ import annotations
 
@@ -81,9 +80,7 @@ def given_back(folio: Folio, max_ptes_none: int, locked_are_tried: bool = False)
     return sum(1 << i for i in range(size) if not is_mapped[i] or (is_zero[i] and not is_kept[i]))
 
 
-def result_of(
-    snapshot: Snapshot, threshold: int, returned: dict[int, int], moved: set[int], added: dict[Statistic, int]
-) -> TrialResult:
+def result_of(snapshot: Snapshot, threshold: int, returned: dict[int, int], moved: set[int], added: dict[Statistic, int]) -> TrialResult:
     """Returns what a trial found, given the frames that came back by page, the pages that were moved, and what was added to the
     kernel's counters."""
     predictor = Predictor(snapshot)

@@ -1,14 +1,11 @@
-"""Compares predictions with what the kernel's shrinker then does, on known pages or a command's, in a memory control group
-of its own.
+"""Compares predictions with what the kernel's shrinker then does, on known pages or a command's, in a memory control group of its own.
 
-A trial makes new pages, sets a threshold, looks, has the kernel reclaim in the group, and looks which pages are split
-and which frames came back; libthp and a plain reading of the kernel's functions (trial.py) predict both from the
-look. Settings are restored, and groups and processes removed, at any end (linux/common/keeper.py); one tool at a time
-holds the lock.
+A trial makes new pages, sets a threshold, looks, has the kernel reclaim in the group, and looks which pages are split and which frames came
+back; libthp and a plain reading of the kernel's functions (trial.py) predict both from the look. Settings are restored, and groups and
+processes removed, at any end (linux/common/keeper.py); one tool at a time holds the lock.
 
 The kernel's counters of splits are of the whole machine. Where they move by more than predicted, others moved them, and a trial
-whose pages are all as predicted is inconclusive, not exact.
-"""
+whose pages are all as predicted is inconclusive, not exact."""
 
 from __future__ import annotations
 

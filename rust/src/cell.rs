@@ -29,7 +29,7 @@ pub struct NodeCell {
 }
 
 impl NodeCell {
-    /// Creates a shared node of this shape, as [`Node::new`] does, for `callers` callers (1 to 64), which are numbered from 0.
+    /// Creates a shared node of this shape, as [`Node::new`] does, for `callers` callers (1 to 4,096), which are numbered from 0.
     pub fn new(blocks: u32, order: u32, underused: Option<u32>, callers: u32) -> Result<NodeCell, Fault> {
         let threshold = threshold_of(underused)?;
         let mut handle = sys::THP_PASS_INIT;

@@ -195,7 +195,7 @@ impl Node {
         Node { handle }
     }
 
-    /// Creates a node with no page, of `blocks` blocks (1 to 4,096), whose pages have `2^order` subpages (order 2 to 9).
+    /// Creates a node with no page, of `blocks` blocks (1 to 16,777,216), whose pages have `2^order` subpages (order 2 to 9).
     ///
     /// With a threshold `underused`, below `2^order`, a page with more zero-filled subpages is worth a split. Fails with
     /// [`Fault::BadSize`] or [`Fault::OutOfMemory`].
@@ -368,7 +368,8 @@ impl Node {
     }
 
     /// Returns the queued pages, oldest first. Reads the journal back to the event that queued the oldest page. Fails with
-    /// [`Fault::NoJournal`] if the node only counts its events, and with [`Fault::OutOfMemory`].
+    /// [`Fault::NoJournal`] if the node only counts its events, with [`Fault::BadSize`] if it has more than 4,096 blocks, and with
+    /// [`Fault::OutOfMemory`].
     pub fn queue(&self) -> Result<Vec<u64>, Fault> {
         let length = self.queue_length() as usize;
         let mut pages = Vec::new();

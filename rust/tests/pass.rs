@@ -62,7 +62,7 @@ fn free<T>(mut call: impl FnMut() -> Result<T, Fault>) -> Result<T, Fault> {
 
 #[test]
 fn what_does_not_fit_is_handed_back() -> Result<(), Fault> {
-    assert_eq!(NodeCell::new(1, 2, None, 65).err(), Some(Fault::BadSize));
+    assert_eq!(NodeCell::new(1, 2, None, 4_097).err(), Some(Fault::BadSize));
     assert_eq!(NodeCell::new(1, 2, Some(512), 1).err(), Some(Fault::BadSize));
     assert_eq!(NodeCell::new(1, 2, Some(u32::MAX), 1).err(), Some(Fault::BadSize));
     assert_eq!(NodeCell::counting(1, 2, Some(u32::MAX), 1).err(), Some(Fault::BadSize));

@@ -174,6 +174,31 @@ fn fault_of_used(rt: &impl Abort, alloc: Global) -> Option<NewFault> {
     }
 }
 
+// The same for the constructor that allows more than scripts do.
+fn fault_of_many(rt: &impl Abort, alloc: Global, callers: u32) -> Option<NewFault> {
+    let node = Node::new(alloc, shape_of(16)).expect(rt, "a node");
+    match NodeCell::with_callers(alloc, node, callers) {
+        Ok(_) => None,
+        Err(fault) => Some(fault),
+    }
+}
+
+#[test]
+fn callers_of_any_cell(rt: HostRuntime) {
+    expect_equal(
+        &rt,
+        fault_of_many(&rt, rt.alloc(), 0),
+        Some(NewFault::BadSize),
+    );
+    expect_equal(&rt, fault_of_many(&rt, rt.alloc(), 65), None);
+    expect_equal(&rt, fault_of_many(&rt, rt.alloc(), 4096), None);
+    expect_equal(
+        &rt,
+        fault_of_many(&rt, rt.alloc(), 4097),
+        Some(NewFault::BadSize),
+    );
+}
+
 #[test]
 fn limits_and_constructors(rt: HostRuntime) {
     expect_equal(&rt, fault_of(&rt, rt.alloc(), 0), Some(NewFault::BadSize));

@@ -145,16 +145,16 @@ fn page_comes_and_goes(rt: HostRuntime) -> Result<(), Fail> {
 
 // A page comes into each block, with numbers that all share their low bits.
 fn fill_alike(rt: &impl Abort, table: &mut PageTable)
-    requires { length table.old.links ≡ 4096 }
+    requires { length table.old.links ≡ 20000 }
 {
-    for block in 0..4096 {
+    for block in 0..20_000 {
         put(rt, table, block, PageId(block as u64 * 65_536));
     }
 }
 
 // Each of these numbers is found, and no other.
 fn expect_alike(rt: &impl Abort, table: &PageTable) {
-    for block in 0..4096 {
+    for block in 0..20_000 {
         let number = block as u64 * 65_536;
         expect_equal(rt, table.block_of(PageId(number)), Some(block));
         expect_equal(rt, table.block_of(PageId(number + 1)), None);
@@ -163,7 +163,7 @@ fn expect_alike(rt: &impl Abort, table: &PageTable) {
 }
 
 fn find_alike(rt: &impl Abort, table: &mut PageTable)
-    requires { length table.old.links ≡ 4096 }
+    requires { length table.old.links ≡ 20000 }
 {
     fill_alike(rt, table);
     expect_alike(rt, table);
@@ -171,7 +171,24 @@ fn find_alike(rt: &impl Abort, table: &mut PageTable)
 
 #[test]
 fn numbers_alike_are_found(rt: HostRuntime) -> Result<(), Fail> {
-    find_alike(&rt, &mut PageTable::new(rt.alloc(), 4096, 2)?);
+    find_alike(&rt, &mut PageTable::new(rt.alloc(), 20_000, 2)?);
+    Ok(())
+}
+
+// A table of the most blocks that a node may have, two of which are used.
+fn use_two(rt: &impl Abort, table: &mut PageTable)
+    requires { length table.old.links ≡ 16777216 }
+{
+    put(rt, table, 0, PageId(5));
+    put(rt, table, 1, PageId(6));
+    expect_equal(rt, table.len(), 16_777_216);
+    expect_equal(rt, table.block_of(PageId(6)), Some(1));
+    expect_equal(rt, table.block_of(PageId(7)), None);
+}
+
+#[test]
+fn most_blocks(rt: HostRuntime) -> Result<(), Fail> {
+    use_two(&rt, &mut PageTable::new(rt.alloc(), 16_777_216, 9)?);
     Ok(())
 }
 

@@ -2,6 +2,7 @@
 
 mod checks;
 mod columns;
+mod large;
 mod nodes;
 mod pictures;
 mod tables;

@@ -5,3 +5,4 @@ mod events;
 mod faults;
 mod parts;
 mod rows;
+mod versions;

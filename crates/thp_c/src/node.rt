@@ -216,7 +216,7 @@ pub extern "C" fn thp_c_node_queue(
 {
     let engine = attempt!(handle.take(alloc));
     let length = match &*engine {
-        Held::Kept(engine) => Ok(engine.queue(pages)),
+        Held::Kept(engine) => engine.queue(pages),
         Held::Counted(_) => Err(Fault::NoJournal),
     };
     handle.store(engine);

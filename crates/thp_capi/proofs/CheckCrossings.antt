@@ -40,7 +40,7 @@ use Rattle.thp_cell.proofs.Crossings.{places_send}
 use Rattle.thp_capi.proofs.Crossings.{boxed_send, trace_send, room_send, words_send}
 
 free_send : IsSend FreeBlocks.the_row
-free_send = view_send in_free.the_row _ _ _ _ (declared_send in_free.the_type (search (sendable, crosses) depth 30, tt))
+free_send = view_send in_free.the_row _ _ _ _ (declared_send in_free.the_type (search sendable, (search sendable, (search (sendable, crosses) depth 30, tt))))
 
 links_send : IsSend LinkVec.the_row
 links_send = view_send in_links.the_row _ _ _ _ (declared_send in_links.the_type (search (sendable, crosses) depth 30, (search (sendable, crosses) depth 30, tt)))

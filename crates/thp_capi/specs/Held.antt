@@ -2,7 +2,7 @@
 use Rattle.std.specs.Prelude.{◌≡◌, ◌⊎◌, Bool, true, false, [], Option, None, Some, Result, Ok, Err, OnErr}
 use Rattle.thp_history.specs.declared.refusal.Refusal.TheVariants.{OutOfMemory}
 use Rattle.thp_history.specs.declared.shape.Shape.{Shape}
-use Rattle.thp_history.specs.Prelude.{IsShape}
+use Rattle.thp_history.specs.Prelude.{IsNodeShape}
 use Rattle.thp_capi.specs.Codes.{Answer, answer_with}
 use Rattle.thp_capi.specs.Engines.{EngineState, NoneOpen}
 use Rattle.thp_capi.specs.Sharing.{SharedState}
@@ -54,7 +54,7 @@ Filled (Some old) None P IsSize answer = ⊥
 -- a node of this shape was created, with no page and no batch
 abbrev pub MadeNode : Option HeldEngine → Option HeldEngine → Shape → Bool → Answer → Type 0
 MadeNode old new s counting answer =
-    Filled old new (λ held. (is_counting held ≡ counting) × ((held_value held).node.shape ≡ s) × ((held_value held).node.journal ≡ []) × NoneOpen (held_value held)) (IsShape s) answer
+    Filled old new (λ held. (is_counting held ≡ counting) × ((held_value held).node.shape ≡ s) × ((held_value held).node.journal ≡ []) × NoneOpen (held_value held)) (IsNodeShape s) answer
 
 -- the handle is empty, whatever it had before
 abbrev pub Emptied : {X : Type 0} → Option X → Option X → Answer → Type 0

@@ -6,7 +6,7 @@ use Rattle.thp_history.specs.declared.page_call.Done.{Done}
 use Rattle.thp_history.specs.declared.refusal.Refusal.{Refusal}
 use Rattle.thp_history.specs.declared.refusal.Refusal.TheVariants.{OutOfMemory}
 use Rattle.thp_history.specs.declared.shape.Shape.{Shape}
-use Rattle.thp_history.specs.Prelude.{max_batch, max_callers, queue, Call, refusal, alloc_page, scan, take_events, IsShape}
+use Rattle.thp_history.specs.Prelude.{max_batch, max_node_callers, queue, Call, refusal, alloc_page, scan, take_events, IsNodeShape}
 use Rattle.thp_cell.specs.Prelude.{Called, Follows, IsBusy, IsRefused, IsJoined, below, from, DidOne, SaysAlloc, DidLose, DidScan, PassState, HasCaller, HasAll}
 use Rattle.thp_capi.specs.Codes.{Answer}
 use Rattle.thp_capi.specs.Engines.{EngineState, NoneOpen}
@@ -81,7 +81,7 @@ pub record IsNewPass (s : Shape) (callers : ℕ) (p : PassState) : Type 0 where
 
 -- a cell can be created with these numbers
 abbrev pub IsCellSize : Shape → ℕ → Type 0
-IsCellSize s callers = IsShape s × (0 < callers) × (callers ≤ max_callers)
+IsCellSize s callers = IsNodeShape s × (0 < callers) × (callers ≤ max_node_callers)
 
 -- `at` divides the callers of the pass
 abbrev pub Divides : ℕ → PassState → Type 0

@@ -1,6 +1,6 @@
 //! The engine that a node's handle owns: a node, and the open batches of its callers.
 ghost use Rattle.std.specs.Prelude.{◌≡◌, ◌<◌, ◌≤◌, None, IsSome, IfOk, IfErr, OnOk, length, true, false, [], ◌∷◌, ◌⊎◌, ◌↔◌, Err};
-ghost use Rattle.thp_history.specs.Prelude.{gain_call, gain_what, is_live, loss_call, loss_what, max_callers, own, queue, subpages, IsShape};
+ghost use Rattle.thp_history.specs.Prelude.{gain_call, gain_what, is_live, loss_call, loss_what, max_callers, own, queue, subpages, IsNodeShape};
 ghost use Rattle.thp_history.specs.Refusals as call;
 ghost use Rattle.thp_capi.specs.Prelude.{AbandonCall, AllocCall, BackFails, BackRecords, BackReplies, EngineState, IsEngine, LoseCall, NextCall, NoneOpen, OneCall, OthersOpen, ReserveCall, ScanCall, TakeCall, engine_open_of, shape_with, stats_of};
 ghost use Rattle.thp_capi.specs.Reading.{WhyUncounted, page_state_of};
@@ -59,9 +59,9 @@ impl<R: Recorder> Model for Engine<R> {
 impl<R: Recorder> Engine<R> {
     /// Creates an engine of a node with no page.
     pub fn new(alloc: Global, shape: Shape) -> Result<Engine<R>, Fault>
-        ensures bad_size { (result ≡ Err Fault.BadSize) ↔ ¬ IsShape shape }
-        ensures size { IfOk result (λ e. IsShape shape) }
-        ensures why { IfErr result (λ f. ((f ≡ Fault.BadSize) × ¬ IsShape shape) ⊎ (f ≡ Fault.Refused Refusal.OutOfMemory)) }
+        ensures bad_size { (result ≡ Err Fault.BadSize) ↔ ¬ IsNodeShape shape }
+        ensures size { IfOk result (λ e. IsNodeShape shape) }
+        ensures why { IfErr result (λ f. ((f ≡ Fault.BadSize) × ¬ IsNodeShape shape) ⊎ (f ≡ Fault.Refused Refusal.OutOfMemory)) }
         ensures shape { IfOk result (λ e. e.node.shape ≡ shape) }
         ensures journal { IfOk result (λ e. e.node.journal ≡ []) }
         ensures none_open { IfOk result NoneOpen }

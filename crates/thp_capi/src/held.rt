@@ -1,6 +1,6 @@
 //! What the handles of nodes and of passes hold: a node's events are stored, or only counted.
 ghost use Rattle.std.specs.Prelude.{◌≡◌, ◌⊎◌, ◌↔◌, [], Err, IfErr, IfOk};
-ghost use Rattle.thp_history.specs.Prelude.{IsShape};
+ghost use Rattle.thp_history.specs.Prelude.{IsNodeShape};
 ghost use Rattle.thp_capi.specs.Prelude.{NoneOpen, held_value, is_counting};
 
 use crate::codes::Fault;
@@ -28,13 +28,13 @@ pub type HeldPass = Held<SharedPass<FullLog>, SharedPass<CountOnly>>;
 impl Held<Engine<FullLog>, Engine<CountOnly>> {
     /// Creates the engine of a node with no page, on the heap.
     pub fn new(alloc: Global, shape: Shape, counting: bool) -> Result<Box<HeldEngine>, Fault>
-        ensures bad_size { (result ≡ Err Fault.BadSize) ↔ ¬ IsShape shape }
+        ensures bad_size { (result ≡ Err Fault.BadSize) ↔ ¬ IsNodeShape shape }
         ensures counting { IfOk result (λ held. is_counting held.value ≡ counting) }
         ensures shape { IfOk result (λ held. (held_value held.value).node.shape ≡ shape) }
         ensures journal { IfOk result (λ held. (held_value held.value).node.journal ≡ []) }
         ensures none_open { IfOk result (λ held. NoneOpen (held_value held.value)) }
-        ensures size { IfOk result (λ held. IsShape shape) }
-        ensures why { IfErr result (λ f. ((f ≡ Fault.BadSize) × ¬ IsShape shape) ⊎ (f ≡ Fault.Refused Refusal.OutOfMemory)) }
+        ensures size { IfOk result (λ held. IsNodeShape shape) }
+        ensures why { IfErr result (λ f. ((f ≡ Fault.BadSize) × ¬ IsNodeShape shape) ⊎ (f ≡ Fault.Refused Refusal.OutOfMemory)) }
     {
         Ok(if counting {
             Box::new(alloc, Held::Counted(Engine::new(alloc, shape)?))?

@@ -46,7 +46,7 @@ impl<R: Recorder> SharedPass<R> {
         ensures why { IfErr result (λ f. ((f ≡ Fault.BadSize) × (IsCellSize shape callers → ⊥)) ⊎ (f ≡ Fault.Refused Refusal.OutOfMemory)) }
     {
         let node = Node::with_recorder(alloc, shape)?;
-        let (cell, pass) = NodeCell::new(alloc, node, callers)?;
+        let (cell, pass) = NodeCell::with_callers(alloc, node, callers)?;
         let batches = none_open(alloc, callers)?;
         let cell = Arc::new(alloc, cell)?;
         Ok(SharedPass {

@@ -37,7 +37,7 @@ use Rattle.thp_cell.specs.contracts.rule.CellRuleTableRuleNodeSeatKnowledgeKey.T
 
 -- the table of pages may go to another thread
 table_send : IsSend PageTable.the_row
-table_send = view_send in_table.the_row _ _ _ _ (declared_send in_table.the_type (search (sendable, crosses) depth 30, (search (sendable, crosses) depth 30, (Vec-send _ descriptor.the_send, (search (sendable, crosses) depth 30, tt)))))
+table_send = view_send in_table.the_row _ _ _ _ (declared_send in_table.the_type (search sendable, (search sendable, (search (sendable, crosses) depth 30, (Vec-send _ descriptor.the_send, (search (sendable, crosses) depth 30, tt))))))
 
 -- the places of pages may go to another thread
 pub places_send : IsSend PageStore.the_row
@@ -45,7 +45,7 @@ places_send = view_send in_places.the_row _ _ _ _ (declared_send in_places.the_t
 
 -- the blocks of a node may go to another thread
 blocks_send : IsSend Blocks.the_row
-blocks_send = view_send in_blocks.the_row _ _ _ _ (declared_send in_blocks.the_type (places_send, (search (sendable, crosses) depth 30, tt)))
+blocks_send = view_send in_blocks.the_row _ _ _ _ (declared_send in_blocks.the_type (places_send, (search (sendable, crosses) depth 30, (search sendable, (search sendable, tt)))))
 
 -- a batch may go to another thread
 pub batch_send : IsSend Batch.the_row

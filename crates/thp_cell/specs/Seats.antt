@@ -1,7 +1,7 @@
 -- The invariants of the seats of a pass and of a hold. No public clause cites this module.
 use Rattle.std.specs.Prelude.{◌≡◌, ℕ, ◌<◌, ◌≤◌, Bool, true, false, List, [], ◌∷◌}
 use Rattle.atomic_table.specs.declared.shared.Seat.{Seat}
-use Rattle.thp_history.specs.Prelude.{max_callers, max_order, History, IsLegal}
+use Rattle.thp_history.specs.Prelude.{max_node_callers, max_order, History, IsLegal}
 use Rattle.thp_node.specs.Prelude.{NodeState}
 use Rattle.thp_cell.specs.declared.rule.SeatKnowledge.{SeatKnowledge}
 use Rattle.thp_cell.specs.Calls.{at_front, locking, missing}
@@ -106,5 +106,5 @@ pub record FoundBusy (keeps : Bool) (old new : Place) : Type 0 where
 pub record IsNumbered (first end : ℕ) (p : PassState) : Type 0 where
   pub first_is : first ≡ p.first
   pub end_is : end ≡ p.end
-  pub few : end ≤ max_callers
+  pub few : end ≤ max_node_callers
   pub order : p.shape.order ≤ max_order

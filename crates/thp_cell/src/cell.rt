@@ -1,6 +1,6 @@
 //! A node that threads share: creating it, locking it, dividing its passes among threads, and dismantling it.
 ghost use Rattle.std.specs.Prelude.{◌≡◌, ℕ, ◌<◌, ◌≤◌, ◌⊎◌, ◌↔◌, [], ◌∷◌, length, true, false, Err, All, IfOk, IfErr, OnOk, OnErr};
-ghost use Rattle.thp_history.specs.Prelude.{max_callers, events_of, IsLegal, queue};
+ghost use Rattle.thp_history.specs.Prelude.{max_callers, max_node_callers, events_of, IsLegal, queue};
 ghost use Rattle.thp_node.specs.Prelude.{StandsOnce, StandsWhole, TakesOldest, LeavesFreedAlone, NothingEnters, HasFramesOnce, KeepsFrames, NodeState};
 ghost use Rattle.thp_cell.specs.Views.{HasCaller, HasAll, part};
 ghost use Rattle.thp_cell.specs.Calls.{Follows, PartsStay, BatchesStay, IsBusy, IsJoined, below, from, keeping, locking, returning_node};
@@ -21,7 +21,7 @@ use atomic_table::{Seat, Table};
 use std::alloc::Global;
 use std::marker::{Brand, Model};
 use std::snapshot::Snapshot;
-use thp_history::MAX_CALLERS;
+use thp_history::{MAX_CALLERS, MAX_NODE_CALLERS};
 use thp_node::{FullLog, NewFault, Node, Recorder};
 
 // Makes a call of the node for a pass, which takes the node first unless it keeps it.
@@ -63,7 +63,8 @@ impl<R: Recorder> Model for NodeCell<R> {
 }
 
 impl<R: Recorder> NodeCell<R> {
-    /// Creates a cell that owns the node, and the pass that has all callers: the numbers below `callers`, which is 1 to 64.
+    /// Creates a cell that owns the node, and the pass that has all callers: the numbers below `callers`, which is 1 to 64, as in
+    /// scripts. `with_callers` allows more.
     ///
     /// Fails with `BadSize` for any other number of callers, which is tested first, and with `OutOfMemory` if the cell can't be
     /// allocated. An error drops the node.
@@ -85,7 +86,37 @@ impl<R: Recorder> NodeCell<R> {
         ensures parts { IfOk result (λ r. (c : ℕ) → part r.1 c ≡ events_of c node.journal) }
         ensures untried { IfOk result (λ r. (r.1.locks ≡ 0) × (r.1.misses ≡ 0)) }
     {
-        if callers == 0 || callers > MAX_CALLERS {
+        if callers > MAX_CALLERS {
+            drop(node);
+            return Err(NewFault::BadSize);
+        }
+        NodeCell::with_callers(alloc, node, callers)
+    }
+
+    /// Creates a cell that owns the node, and the pass that has all callers: the numbers below `callers`, which is 1 to 4,096. The
+    /// cell stores nothing for a caller.
+    ///
+    /// Fails with `BadSize` for any other number of callers, which is tested first, and with `OutOfMemory` if the cell can't be
+    /// allocated. An error drops the node.
+    pub fn with_callers(
+        alloc: Global,
+        node: Node<R>,
+        callers: u32,
+    ) -> Result<(NodeCell<R>, Pass<R>), NewFault>
+        requires { All (λ e. e.caller < callers) node.journal }
+        ensures bad_size { (result ≡ Err NewFault.BadSize) ↔ ((callers ≡ 0) ⊎ (max_node_callers < callers)) }
+        ensures cell { IfOk result (λ r. r.1.cell ≡ r.0) }
+        ensures callers { IfOk result (λ r. r.1.callers ≡ callers) }
+        ensures all { IfOk result (λ r. HasAll r.1) }
+        ensures few { IfOk result (λ r. (0 < callers) × (callers ≤ max_node_callers)) }
+        ensures free { IfOk result (λ r. r.1.keeps ≡ false) }
+        ensures shape { IfOk result (λ r. r.1.shape ≡ node.shape) }
+        ensures front { IfOk result (λ r. r.1.front ≡ node.journal) }
+        ensures legal { IfOk result (λ r. IsLegal r.1.shape r.1.front) }
+        ensures parts { IfOk result (λ r. (c : ℕ) → part r.1 c ≡ events_of c node.journal) }
+        ensures untried { IfOk result (λ r. (r.1.locks ≡ 0) × (r.1.misses ≡ 0)) }
+    {
+        if callers == 0 || callers > MAX_NODE_CALLERS {
             drop(node);
             return Err(NewFault::BadSize);
         }

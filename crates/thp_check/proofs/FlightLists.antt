@@ -65,14 +65,14 @@ filter_had p (y ∷ ys) x m = go (p y) refl m (λ k. filter_had p ys x k) where
   go false e m more = behind (more m)
 
 -- the list of a caller after another list was put in the place of that of caller c
-list_after : (ls : List (List ℕ)) (c d : ℕ) (xs : List ℕ) → length ls ≡ 64 → d % 64 ≡ c % 64 → list_at (slice_set ls (c % 64) xs) (d % 64) ≡ xs
-list_after ls c d xs size same = ap (list_at (slice_set ls (c % 64) xs)) same ∙ get_or-set_same ls (c % 64) xs [] (omega (arith, size))
+list_after : (ls : List (List ℕ)) (c d : ℕ) (xs : List ℕ) → length ls ≡ 4096 → d % 4096 ≡ c % 4096 → list_at (slice_set ls (c % 4096) xs) (d % 4096) ≡ xs
+list_after ls c d xs size same = ap (list_at (slice_set ls (c % 4096) xs)) same ∙ get_or-set_same ls (c % 4096) xs [] (omega (arith, size))
 
 list_other : (ls : List (List ℕ)) (k n : ℕ) (xs : List ℕ) → n ≢ k → list_at (slice_set ls k xs) n ≡ list_at ls n
 list_other ls k n xs other = get_or-set_other ls k n xs [] other
 
-unequal : (c d : ℕ) → d % 64 ≢ c % 64 → nat_eq c d ≡ false
-unequal c d other = ne_eqb c d (λ e. other (ap (λ n. n % 64) (sym e)))
+unequal : (c d : ℕ) → d % 4096 ≢ c % 4096 → nat_eq c d ≡ false
+unequal c d other = ne_eqb c d (λ e. other (ap (λ n. n % 4096) (sym e)))
 
 -- the caller of a block, before and after that of block b was set
 caller_same : (cs : List ℕ) (b c : ℕ) → b < length cs → caller_at (slice_set cs b c) b ≡ c
@@ -86,27 +86,27 @@ module _ (cs : List ℕ) (ls : List (List ℕ)) (links : List Link) (m : AreLink
   pub listless : (b : ℕ) (f : FlightsState) → record { callers = cs; lists = ls } ≡ f → ((c : ℕ) → Contains (blocks_in f c) b → ⊥) → (k : ℕ) → Contains (list_at ls k) b → ⊥
   unfolding blocks_in
   listless b f view none k i =
-      let own : caller_at cs b % 64 ≡ k = m.own k b i in
+      let own : caller_at cs b % 4096 ≡ k = m.own k b i in
       let P : ℕ → Type 0 = λ n. Contains (list_at ls n) b in
       let Q : FlightsState → Type 0 = λ g. Contains (blocks_in g (caller_at cs b)) b in
       none (caller_at cs b)
-      (subst Q view (filter_has (λ x. nat_eq (caller_at cs x) (caller_at cs b)) (list_at ls (caller_at cs b % 64)) b (subst P (sym own) i) (eq-eqb (caller_at cs b) (caller_at cs b) refl)))
+      (subst Q view (filter_has (λ x. nat_eq (caller_at cs x) (caller_at cs b)) (list_at ls (caller_at cs b % 4096)) b (subst P (sym own) i) (eq-eqb (caller_at cs b) (caller_at cs b) refl)))
 
   -- a block of a flight is in the caller's list, as the caller's
-  pub listed : (b c : ℕ) (f : FlightsState) → record { callers = cs; lists = ls } ≡ f → Contains (blocks_in f c) b → Contains (list_at ls (c % 64)) b × (caller_at cs b ≡ c)
+  pub listed : (b c : ℕ) (f : FlightsState) → record { callers = cs; lists = ls } ≡ f → Contains (blocks_in f c) b → Contains (list_at ls (c % 4096)) b × (caller_at cs b ≡ c)
   unfolding blocks_in
   listed b c f view i =
       let Q : FlightsState → Type 0 = λ g. Contains (blocks_in g c) b in
-      let w = filter_had (λ x. nat_eq (caller_at cs x) c) (list_at ls (c % 64)) b (subst Q (sym view) i) in
+      let w = filter_had (λ x. nat_eq (caller_at cs x) c) (list_at ls (c % 4096)) b (subst Q (sym view) i) in
       (w.0, eqb-true (caller_at cs b) c w.1)
 
   -- a block joins the flight of caller c
   module _ (b c : ℕ) (inside : b < length cs) (none : (k : ℕ) → Contains (list_at ls k) b → ⊥) where
     abbrev longer : List ℕ
-    longer = list_at ls (c % 64) ++ b ∷ []
+    longer = list_at ls (c % 4096) ++ b ∷ []
 
     abbrev joined : FlightsState
-    joined = record { callers = slice_set cs b c; lists = slice_set ls (c % 64) longer }
+    joined = record { callers = slice_set cs b c; lists = slice_set ls (c % 4096) longer }
 
     others : (k x : ℕ) → Contains (list_at ls k) x → x ≢ b
     others k x i e = none k (let P : ℕ → Type 0 = λ y. Contains (list_at ls k) y in subst P e i)
@@ -117,56 +117,56 @@ module _ (cs : List ℕ) (ls : List (List ℕ)) (links : List Link) (m : AreLink
 
     pub joins : (d : ℕ) → blocks_in joined d ≡ cond (nat_eq c d) (blocks_in (record { callers = cs; lists = ls }) d ++ b ∷ []) (blocks_in (record { callers = cs; lists = ls }) d)
     unfolding blocks_in
-    joins d = elim (eqb_tells (d % 64) (c % 64)) [
+    joins d = elim (eqb_tells (d % 4096) (c % 4096)) [
       | inl y ↦
           let test : ℕ → Bool = λ x. nat_eq (caller_at (slice_set cs b c) x) d in
-          ap (filter test) (list_after ls c d longer m.count y.1) ∙ filter-append test (list_at ls (c % 64)) (b ∷ [])
-          ∙ ap₂ (λ (xs : List ℕ) a. xs ++ cond a (b ∷ []) []) (agrees (c % 64) d ∙ ap (λ n. filter (λ x. nat_eq (caller_at cs x) d) (list_at ls n)) (sym y.1)) (ap (λ n. nat_eq n d) (caller_same cs b c inside))
-          ∙ last (nat_eq c d) (filter (λ x. nat_eq (caller_at cs x) d) (list_at ls (d % 64)))
+          ap (filter test) (list_after ls c d longer m.count y.1) ∙ filter-append test (list_at ls (c % 4096)) (b ∷ [])
+          ∙ ap₂ (λ (xs : List ℕ) a. xs ++ cond a (b ∷ []) []) (agrees (c % 4096) d ∙ ap (λ n. filter (λ x. nat_eq (caller_at cs x) d) (list_at ls n)) (sym y.1)) (ap (λ n. nat_eq n d) (caller_same cs b c inside))
+          ∙ last (nat_eq c d) (filter (λ x. nat_eq (caller_at cs x) d) (list_at ls (d % 4096)))
       | inr y ↦
-          ap (filter (λ x. nat_eq (caller_at (slice_set cs b c) x) d)) (list_other ls (c % 64) (d % 64) longer y.1) ∙ agrees (d % 64) d
-          ∙ sym (ap (λ a. cond a (filter (λ x. nat_eq (caller_at cs x) d) (list_at ls (d % 64)) ++ b ∷ []) (filter (λ x. nat_eq (caller_at cs x) d) (list_at ls (d % 64)))) (unequal c d y.1))
+          ap (filter (λ x. nat_eq (caller_at (slice_set cs b c) x) d)) (list_other ls (c % 4096) (d % 4096) longer y.1) ∙ agrees (d % 4096) d
+          ∙ sym (ap (λ a. cond a (filter (λ x. nat_eq (caller_at cs x) d) (list_at ls (d % 4096)) ++ b ∷ []) (filter (λ x. nat_eq (caller_at cs x) d) (list_at ls (d % 4096)))) (unequal c d y.1))
     ] where
       last : (a : Bool) (xs : List ℕ) → xs ++ cond a (b ∷ []) [] ≡ cond a (xs ++ b ∷ []) xs
       last true xs = refl
       last false xs = append_none xs
 
     -- what is in the longer list was there or is b
-    longer_has : (x : ℕ) → Contains longer x → Contains (list_at ls (c % 64)) x ⊎ (b ≡ x)
-    longer_has x i = Contains-push_cases (list_at ls (c % 64)) b x i
+    longer_has : (x : ℕ) → Contains longer x → Contains (list_at ls (c % 4096)) x ⊎ (b ≡ x)
+    longer_has x i = Contains-push_cases (list_at ls (c % 4096)) b x i
 
-    pub joins_linked : (new : List Link) → Stands longer new → SameOutside longer links new → AreLinked (slice_set cs b c) (slice_set ls (c % 64) longer) new
+    pub joins_linked : (new : List Link) → Stands longer new → SameOutside longer links new → AreLinked (slice_set cs b c) (slice_set ls (c % 4096) longer) new
     joins_linked new stands outside = record {
       sizes = length-set cs b c ∙ m.sizes ∙ sym outside.same_length;
-      count = length-set ls (c % 64) longer ∙ m.count;
+      count = length-set ls (c % 4096) longer ∙ m.count;
       each_stands = λ k.
           let P : List ℕ → Type 0 = λ xs. Stands xs new in
-          elim (eqb_tells k (c % 64)) [
-            | inl y ↦ subst P (sym (ap (list_at (slice_set ls (c % 64) longer)) y.1 ∙ get_or-set_same ls (c % 64) longer [] (omega (arith, m.count)))) stands
-            | inr y ↦ subst P (sym (list_other ls (c % 64) k longer y.1)) (Stands-kept (m.each_stands k) outside (record { never_both = apart k y.1 }))
+          elim (eqb_tells k (c % 4096)) [
+            | inl y ↦ subst P (sym (ap (list_at (slice_set ls (c % 4096) longer)) y.1 ∙ get_or-set_same ls (c % 4096) longer [] (omega (arith, m.count)))) stands
+            | inr y ↦ subst P (sym (list_other ls (c % 4096) k longer y.1)) (Stands-kept (m.each_stands k) outside (record { never_both = apart k y.1 }))
           ];
       own = λ k x i.
-          elim (eqb_tells k (c % 64)) [
+          elim (eqb_tells k (c % 4096)) [
             | inl y ↦
                 let P : List ℕ → Type 0 = λ xs. Contains xs x in
-                elim (longer_has x (subst P (ap (list_at (slice_set ls (c % 64) longer)) y.1 ∙ get_or-set_same ls (c % 64) longer [] (omega (arith, m.count))) i)) [
-                  | inl o ↦ ap (λ n. n % 64) (caller_other cs b c x (others (c % 64) x o)) ∙ m.own (c % 64) x o ∙ sym y.1
-                  | inr e ↦ ap (λ z. caller_at (slice_set cs b c) z % 64) (sym e) ∙ ap (λ n. n % 64) (caller_same cs b c inside) ∙ sym y.1
+                elim (longer_has x (subst P (ap (list_at (slice_set ls (c % 4096) longer)) y.1 ∙ get_or-set_same ls (c % 4096) longer [] (omega (arith, m.count))) i)) [
+                  | inl o ↦ ap (λ n. n % 4096) (caller_other cs b c x (others (c % 4096) x o)) ∙ m.own (c % 4096) x o ∙ sym y.1
+                  | inr e ↦ ap (λ z. caller_at (slice_set cs b c) z % 4096) (sym e) ∙ ap (λ n. n % 4096) (caller_same cs b c inside) ∙ sym y.1
                 ]
             | inr y ↦
                 let P : List ℕ → Type 0 = λ xs. Contains xs x in
-                let o : Contains (list_at ls k) x = subst P (list_other ls (c % 64) k longer y.1) i in
-                ap (λ n. n % 64) (caller_other cs b c x (others k x o)) ∙ m.own k x o
+                let o : Contains (list_at ls k) x = subst P (list_other ls (c % 4096) k longer y.1) i in
+                ap (λ n. n % 4096) (caller_other cs b c x (others k x o)) ∙ m.own k x o
           ];
     } where
-      apart : (k : ℕ) → k ≢ c % 64 → (x : ℕ) → Contains (list_at ls k) x → Contains longer x → ⊥
+      apart : (k : ℕ) → k ≢ c % 4096 → (x : ℕ) → Contains (list_at ls k) x → Contains longer x → ⊥
       apart k other x i j = elim (longer_has x j) [
-        | inl o ↦ other (sym (m.own k x i) ∙ m.own (c % 64) x o)
+        | inl o ↦ other (sym (m.own k x i) ∙ m.own (c % 4096) x o)
         | inr e ↦ others k x i (sym e)
       ]
 
     -- the same, where the list and its place are given by equations
-    module _ (k : ℕ) (ys : List ℕ) (place : k ≡ c % 64) (is : ys ≡ longer) where
+    module _ (k : ℕ) (ys : List ℕ) (place : k ≡ c % 4096) (is : ys ≡ longer) where
       pub joined_linked : (new : List Link) → Stands ys new → SameOutside ys links new → AreLinked (slice_set cs b c) (slice_set ls k ys) new
       joined_linked new stands outside = grind (arith, slice_set, joins_linked)
 
@@ -175,42 +175,42 @@ module _ (cs : List ℕ) (ls : List (List ℕ)) (links : List Link) (m : AreLink
       joined_blocks f view d = grind (arith, slice_set, joins, nat_eq)
 
   -- a block leaves the flight of caller c
-  module _ (b c : ℕ) (there : Contains (list_at ls (c % 64)) b) (its : caller_at cs b ≡ c) where
+  module _ (b c : ℕ) (there : Contains (list_at ls (c % 4096)) b) (its : caller_at cs b ≡ c) where
     abbrev shorter : List ℕ
-    shorter = without_index b (list_at ls (c % 64))
+    shorter = without_index b (list_at ls (c % 4096))
 
     abbrev left : FlightsState
-    left = record { callers = cs; lists = slice_set ls (c % 64) shorter }
+    left = record { callers = cs; lists = slice_set ls (c % 4096) shorter }
 
     pub leaves : (d : ℕ) → blocks_in left d ≡ flight_left (Some c) b d (blocks_in (record { callers = cs; lists = ls }) d)
     unfolding blocks_in
     leaves d = grind (arith, eqb_tells, nat_eq, list_after, list_other, unequal, filter_swap, filter_weaker, ne_eqb, eqb-true, eq-eqb)
 
-    pub leaves_linked : (new : List Link) → Stands shorter new → SameOutside (list_at ls (c % 64)) links new → AreLinked cs (slice_set ls (c % 64) shorter) new
+    pub leaves_linked : (new : List Link) → Stands shorter new → SameOutside (list_at ls (c % 4096)) links new → AreLinked cs (slice_set ls (c % 4096) shorter) new
     leaves_linked new stands outside = record {
       sizes = m.sizes ∙ sym outside.same_length;
-      count = length-set ls (c % 64) shorter ∙ m.count;
+      count = length-set ls (c % 4096) shorter ∙ m.count;
       each_stands = λ k.
           let P : List ℕ → Type 0 = λ xs. Stands xs new in
-          elim (eqb_tells k (c % 64)) [
-            | inl y ↦ subst P (sym (ap (list_at (slice_set ls (c % 64) shorter)) y.1 ∙ get_or-set_same ls (c % 64) shorter [] (omega (arith, m.count)))) stands
+          elim (eqb_tells k (c % 4096)) [
+            | inl y ↦ subst P (sym (ap (list_at (slice_set ls (c % 4096) shorter)) y.1 ∙ get_or-set_same ls (c % 4096) shorter [] (omega (arith, m.count)))) stands
             | inr y ↦
-                subst P (sym (list_other ls (c % 64) k shorter y.1))
-                (Stands-kept (m.each_stands k) outside (record { never_both = λ x i j. y.1 (sym (m.own k x i) ∙ m.own (c % 64) x j) }))
+                subst P (sym (list_other ls (c % 4096) k shorter y.1))
+                (Stands-kept (m.each_stands k) outside (record { never_both = λ x i j. y.1 (sym (m.own k x i) ∙ m.own (c % 4096) x j) }))
           ];
       own = λ k x i.
           let P : List ℕ → Type 0 = λ xs. Contains xs x in
-          elim (eqb_tells k (c % 64)) [
+          elim (eqb_tells k (c % 4096)) [
             | inl y ↦
-                m.own (c % 64) x
-                (Contains-from_without b (list_at ls (c % 64)) x (subst P (ap (list_at (slice_set ls (c % 64) shorter)) y.1 ∙ get_or-set_same ls (c % 64) shorter [] (omega (arith, m.count))) i)).0 ∙ sym y.1
-            | inr y ↦ m.own k x (subst P (list_other ls (c % 64) k shorter y.1) i)
+                m.own (c % 4096) x
+                (Contains-from_without b (list_at ls (c % 4096)) x (subst P (ap (list_at (slice_set ls (c % 4096) shorter)) y.1 ∙ get_or-set_same ls (c % 4096) shorter [] (omega (arith, m.count))) i)).0 ∙ sym y.1
+            | inr y ↦ m.own k x (subst P (list_other ls (c % 4096) k shorter y.1) i)
           ];
     }
 
     -- the same, where the list and its place are given by equations
-    module _ (k : ℕ) (ys : List ℕ) (place : k ≡ c % 64) (is : ys ≡ shorter) where
-      pub left_linked : (new : List Link) → Stands ys new → SameOutside (list_at ls (c % 64)) links new → AreLinked cs (slice_set ls k ys) new
+    module _ (k : ℕ) (ys : List ℕ) (place : k ≡ c % 4096) (is : ys ≡ shorter) where
+      pub left_linked : (new : List Link) → Stands ys new → SameOutside (list_at ls (c % 4096)) links new → AreLinked cs (slice_set ls k ys) new
       left_linked new stands outside = grind (arith, slice_set, leaves_linked)
 
       pub left_blocks : (f : FlightsState) → record { callers = cs; lists = ls } ≡ f → (d : ℕ) →
@@ -224,7 +224,7 @@ any_default (l ∷ ls) zero xs ys below = refl
 any_default (l ∷ ls) (suc k) xs ys below = any_default ls k xs ys (omega arith)
 
 -- the list that was read is that of the caller
-pub read_list : (ls : List (List ℕ)) (k c : ℕ) (xs ys : List ℕ) → length ls ≡ 64 → k < 64 → k ≡ c % 64 → xs ≡ get_or ls k ys → xs ≡ list_at ls (c % 64)
+pub read_list : (ls : List (List ℕ)) (k c : ℕ) (xs ys : List ℕ) → length ls ≡ 4096 → k < 4096 → k ≡ c % 4096 → xs ≡ get_or ls k ys → xs ≡ list_at ls (c % 4096)
 read_list ls k c xs ys size below place is = is ∙ any_default ls k ys [] (omega (arith, size)) ∙ ap (list_at ls) place
 
 -- no index passed the test so far: the next one does, or doesn't, or there is none
@@ -261,23 +261,23 @@ any_number (x ∷ ns) (suc k) m n below = any_number ns k m n (omega arith)
 
 -- the search for the first block of caller c along the list xs in which it is
 module _ (cs : List ℕ) (ls : List (List ℕ)) (links : List Link) (m : AreLinked cs ls links) (f : FlightsState) (view : record { callers = cs; lists = ls } ≡ f) (c : ℕ) (xs : List ℕ)
-    (read : xs ≡ list_at ls (c % 64)) where
+    (read : xs ≡ list_at ls (c % 4096)) where
   abbrev is_its : ℕ → Bool
   is_its x = nat_eq (caller_at f.callers x) c
 
   abbrev its_list : List ℕ
-  its_list = list_at f.lists (c % 64)
+  its_list = list_at f.lists (c % 4096)
 
   list_is : xs ≡ its_list
-  list_is = read ∙ ap (λ (g : FlightsState). list_at g.lists (c % 64)) view
+  list_is = read ∙ ap (λ (g : FlightsState). list_at g.lists (c % 4096)) view
 
   -- the block at a place, and its caller
   pub place_inside : (k b : ℕ) → b ≡ get_or its_list k NIL → k < length xs → b < length links
   place_inside k b next below =
-      let P : ℕ → Type 0 = λ x. Contains (list_at ls (c % 64)) x in
-      let same : b ≡ get_or (list_at ls (c % 64)) k NIL = next ∙ ap (λ (ys : List ℕ). get_or ys k NIL) (sym list_is ∙ read) in
-      let short : k < length (list_at ls (c % 64)) = omega (arith, below, ap (λ (ys : List ℕ). length ys) read) in
-      Stands-inside b (m.each_stands (c % 64)) (subst P (sym same) (there_is (list_at ls (c % 64)) k short))
+      let P : ℕ → Type 0 = λ x. Contains (list_at ls (c % 4096)) x in
+      let same : b ≡ get_or (list_at ls (c % 4096)) k NIL = next ∙ ap (λ (ys : List ℕ). get_or ys k NIL) (sym list_is ∙ read) in
+      let short : k < length (list_at ls (c % 4096)) = omega (arith, below, ap (λ (ys : List ℕ). length ys) read) in
+      Stands-inside b (m.each_stands (c % 4096)) (subst P (sym same) (there_is (list_at ls (c % 4096)) k short))
 
   caller_is : (k b n : ℕ) → b ≡ get_or its_list k NIL → k < length xs → n ≡ get_or cs b n → caller_at f.callers b ≡ n
   caller_is k b n next below is = grind (arith, any_number, place_inside)
@@ -315,8 +315,8 @@ module _ (cs : List ℕ) (ls : List (List ℕ)) (links : List Link) (m : AreLink
   pub next_after : (k b v : ℕ) → b ≡ get_or its_list k NIL → k < length xs → IfSome (slice_get links b) (λ l. v ≡ l.next) → v ≡ get_or its_list (k + 1) NIL
   next_after k b v next below reported =
       let P : Option Link → Type 0 = λ o. IfSome o (λ l. v ≡ l.next) in
-      let ys : List ℕ = list_at ls (c % 64) in
-      let w = next_at links NIL ys k (m.each_stands (c % 64)).segment (omega (arith, below, ap (λ (zs : List ℕ). length zs) read)) in
+      let ys : List ℕ = list_at ls (c % 4096) in
+      let w = next_at links NIL ys k (m.each_stands (c % 4096)).segment (omega (arith, below, ap (λ (zs : List ℕ). length zs) read)) in
       let at : slice_get links b ≡ Some (between w.0 (get_or ys (suc k) NIL)) = ap (slice_get links) (next ∙ ap (λ (zs : List ℕ). get_or zs k NIL) (sym list_is ∙ read)) ∙ w.1 in
       subst P at reported ∙ ap (λ (zs : List ℕ). get_or zs (suc k) NIL) (sym read ∙ list_is) ∙ ap (λ j. get_or its_list j NIL) (sym (add-one k))
 
@@ -331,4 +331,4 @@ empty_at (suc n) (suc k) = empty_at n k
 
 pub empty_in : (cs : List ℕ) (n d : ℕ) → blocks_in (record { callers = cs; lists = replicate n no_blocks }) d ≡ []
 unfolding blocks_in
-empty_in cs n d = ap (filter (λ x. nat_eq (caller_at cs x) d)) (empty_at n (d % 64))
+empty_in cs n d = ap (filter (λ x. nat_eq (caller_at cs x) d)) (empty_at n (d % 4096))

@@ -7,12 +7,12 @@ use Rattle.thp_history.specs.declared.events.Outcome.{Outcome}
 use Rattle.thp_history.specs.declared.events.What.{What}
 use Rattle.thp_history.specs.declared.events.What.TheVariants.{Alloc}
 use Rattle.thp_history.specs.declared.shape.Shape.{Shape}
-use Rattle.thp_history.specs.Prelude.{least_free, allocates, frees, is_freed, is_live, block_in_use, is_block_held, History, some_event, Fits, FitsAlloc, FitsBy, IsLegal, in_words}
+use Rattle.thp_history.specs.Prelude.{least_free, allocates, frees, is_freed, is_live, block_in_use, is_block_held, History, some_event, Fits, FitsAlloc, FitsBy, IsLegal}
 use Rattle.thp_history.proofs.Blocks.{held_in_use}
 use Rattle.thp_history.proofs.Bools.{by_bool, and_both, and-true}
 use Rattle.thp_history.proofs.LegalSteps.{legal_push}
 use Rattle.thp_page.specs.Prelude.{slot_at, HoldsPage, Slot, Table}
-use Rattle.thp_live_pages.specs.Prelude.{IsNode, block_of, block_after}
+use Rattle.thp_live_pages.specs.Prelude.{FreeSet, IsNode, block_of, block_after, has_block}
 use Rattle.thp_live_pages.proofs.Admitting.{found, at_home}
 use Rattle.thp_live_pages.proofs.Homing.{Homed, legal_homed, block_push, block_stays, block_freed, block_free, block_taken}
 use Rattle.thp_live_pages.proofs.Least.{first_found, first_none}
@@ -153,10 +153,10 @@ module _ (s : Shape) (h : History) (e : Event) (legal : IsLegal s h) (fits : Fit
   free_then : (taken freed : Option ℕ) (b : ℕ) → IsInsideNode freed → free_after taken freed b (nat_lt b s.blocks && not (block_in_use h b)) ≡ (nat_lt b s.blocks && not (use_after taken freed b))
   free_then x freed b f = grind (arith, cond_and, nat_eq, nat_lt, eqb_tells, lt-ltb)
 
-  -- the words with these bits changed are those of the blocks that are free then
-  pub marks_push : (words others : List ℕ) (freed : Option ℕ) → MarksFree s h words → IsFreed h e.what freed → length others ≡ length words →
-      ((b : ℕ) → in_words others b ≡ free_after (taken_block e.what) freed b (in_words words b)) → MarksFree s k others
-  marks_push words others freed a f size changed = grind (arith, free_then, nat_lt, used, m)
+  -- the set with these blocks changed is that of the blocks that are free then
+  pub marks_push : (free others : FreeSet) (freed : Option ℕ) → MarksFree s h free → IsFreed h e.what freed → others.blocks ≡ free.blocks →
+      ((b : ℕ) → has_block others b ≡ free_after (taken_block e.what) freed b (has_block free b)) → MarksFree s k others
+  marks_push free others freed a f size changed = grind (arith, free_then, nat_lt, used, m)
 
 -- ---- where a page that is known by its slot lies
 
@@ -179,14 +179,14 @@ pub freed_found : (s : Shape) (h : History) (t : Table) (q : List ℕ) (w : What
     MatchOption o ((b : ℕ) → HoldsPage (slot_at t b) p → ⊥) (λ b. HoldsPage (slot_at t b) p) → IsFreed h w o
 freed_found s h t q w p x node f same none = grind (arith, lies_nowhere, lies_held)
 
--- it is one of the node's, and has a bit
-pub freed_inside : (s : Shape) (h : History) (w : What) (words : List ℕ) (o : Option ℕ) → IsLegal s h → MarksFree s h words → IsFreed h w o → IfSome o (λ b. b < 64 * length words)
-freed_inside s h w words None legal a f = tt
-freed_inside s h w words (Some b) legal a f = omega (arith, ((legal_homed s h legal).from f.0 b f.2).below, a.size)
+-- it is one of the node's
+pub freed_inside : (s : Shape) (h : History) (w : What) (free : FreeSet) (o : Option ℕ) → IsLegal s h → MarksFree s h free → IsFreed h w o → IfSome o (λ b. b < free.blocks)
+freed_inside s h w free None legal a f = tt
+freed_inside s h w free (Some b) legal a f = omega (arith, ((legal_homed s h legal).from f.0 b f.2).below, a.size)
 
 -- ---- the least free block
 
-module _ (s : Shape) (h : History) (words : List ℕ) (legal : IsLegal s h) (marks : MarksFree s h words) where
+module _ (s : Shape) (h : History) (free : FreeSet) (legal : IsLegal s h) (marks : MarksFree s h free) where
   -- a block is held where it is in use
   held_as : (b : ℕ) (used : Bool) → block_in_use h b ≡ used → not (is_block_held h b) ≡ not used
   held_as b used e = ap not (held_in_use s h legal b ∙ e)
@@ -205,17 +205,17 @@ module _ (s : Shape) (h : History) (words : List ℕ) (legal : IsLegal s h) (mar
   within i j e = grind arith
 
   -- a block of the node that has no mark is held
-  unmarked : (b : ℕ) → b < s.blocks → in_words words b ≡ false → not (is_block_held h b) ≡ false
+  unmarked : (b : ℕ) → b < s.blocks → has_block free b ≡ false → not (is_block_held h b) ≡ false
   unmarked b l none = held_as b true (second (nat_lt b s.blocks) (block_in_use h b) (lt-ltb b s.blocks l) (sym (marks.marked b) ∙ none))
 
-  pub least_found : (b : ℕ) → in_words words b ≡ true → ((k : ℕ) → k < b → in_words words k ≡ false) → b ≡ least_free s h
+  pub least_found : (b : ℕ) → has_block free b ≡ true → ((k : ℕ) → k < b → has_block free k ≡ false) → b ≡ least_free s h
   unfolding least_free
   least_found b there least =
       let both = first (nat_lt b s.blocks) (block_in_use h b) (sym (marks.marked b) ∙ there) in
       let inside : b < s.blocks = within b s.blocks both.0 in
       sym (first_found (λ i. not (is_block_held h i)) 0 s.blocks b (omega arith) (omega (arith, inside)) (held_as b false both.1) (λ i l. unmarked i (omega (arith, inside)) (least i l)))
 
-  pub least_missing : ((k : ℕ) → in_words words k ≡ false) → 0 ≡ least_free s h
+  pub least_missing : ((k : ℕ) → has_block free k ≡ false) → 0 ≡ least_free s h
   unfolding least_free
   least_missing none = sym (first_none (λ i. not (is_block_held h i)) 0 s.blocks (λ i l. unmarked i (omega arith) (none i)))
 
@@ -225,8 +225,8 @@ no_use : (b : ℕ) → block_in_use [] b ≡ false
 unfolding some_event
 no_use b = refl
 
-pub marks_none : (s : Shape) (words : List ℕ) → ((b : ℕ) → in_words words b ≡ nat_lt b s.blocks) → s.blocks ≤ 64 * length words → MarksFree s [] words
-marks_none s words f size = record {
+pub marks_none : (s : Shape) (free : FreeSet) → ((b : ℕ) → has_block free b ≡ nat_lt b s.blocks) → s.blocks ≤ free.blocks → MarksFree s [] free
+marks_none s free f size = record {
   marked = λ b. f b ∙ sym (ap (λ u. nat_lt b s.blocks && not u) (no_use b) ∙ and-true (nat_lt b s.blocks));
   size = size;
 }

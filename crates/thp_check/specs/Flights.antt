@@ -3,7 +3,7 @@ use Rattle.std.specs.Prelude.{◌≡◌, ℕ, ◌%◌, cond, nat_eq, List, [], l
 use Rattle.thp_links.specs.declared.link.Link.{Link}
 use Rattle.thp_links.specs.Prelude.{without_index, Stands}
 
--- the caller of each block, and 64 lists of blocks by caller
+-- the caller of each block, and 4096 lists of blocks by caller
 pub record FlightsState : Type 0 where
   pub callers : List ℕ
   pub lists : List (List ℕ)
@@ -16,7 +16,7 @@ list_at ls k = slice_index_or ls k []
 
 -- the blocks of the pages that caller c has in flight, in the order of the takes
 unfoldable pub blocks_in : FlightsState → ℕ → List ℕ
-blocks_in f c = filter (λ b. nat_eq (caller_at f.callers b) c) (list_at f.lists (c % 64))
+blocks_in f c = filter (λ b. nat_eq (caller_at f.callers b) c) (list_at f.lists (c % 4096))
 
 -- the flight of caller d after block b, or page b, has left that of this caller, if any
 abbrev pub flight_left : Option ℕ → ℕ → ℕ → List ℕ → List ℕ
@@ -26,6 +26,6 @@ flight_left (Some c) b d bs = cond (nat_eq c d) (without_index b bs) bs
 -- the links hold the lists, each with blocks of its own callers only
 pub record AreLinked (callers : List ℕ) (lists : List (List ℕ)) (ls : List Link) : Type 0 where
   pub sizes : length callers ≡ length ls
-  pub count : length lists ≡ 64
+  pub count : length lists ≡ 4096
   pub each_stands : (k : ℕ) → Stands (list_at lists k) ls
-  pub own : (k b : ℕ) → Contains (list_at lists k) b → caller_at callers b % 64 ≡ k
+  pub own : (k b : ℕ) → Contains (list_at lists k) b → caller_at callers b % 4096 ≡ k

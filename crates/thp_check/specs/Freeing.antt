@@ -1,15 +1,15 @@
 -- The blocks that are free after an event. No public clause cites this module.
-use Rattle.std.specs.Prelude.{◌≡◌, ℕ, ◌*◌, ◌≤◌, Bool, true, false, not, ◌&&◌, nat_eq, nat_lt, cond, List, length, Option, Some, None}
+use Rattle.std.specs.Prelude.{◌≡◌, ℕ, ◌≤◌, Bool, true, false, not, ◌&&◌, nat_eq, nat_lt, cond, Option, Some, None}
 use Rattle.thp_history.specs.declared.events.What.{What}
 use Rattle.thp_history.specs.declared.events.What.TheVariants.{Alloc}
 use Rattle.thp_history.specs.declared.shape.Shape.{Shape}
-use Rattle.thp_history.specs.Prelude.{frees, block_in_use, History, in_words}
-use Rattle.thp_live_pages.specs.Prelude.{block_of}
+use Rattle.thp_history.specs.Prelude.{frees, block_in_use, History}
+use Rattle.thp_live_pages.specs.Prelude.{FreeSet, block_of, has_block}
 
--- the words are the set of the node's blocks without a live page
-pub record MarksFree (s : Shape) (h : History) (words : List ℕ) : Type 0 where
-  pub marked : (b : ℕ) → in_words words b ≡ (nat_lt b s.blocks && not (block_in_use h b))
-  pub size : s.blocks ≤ 64 * length words
+-- the set is that of the node's blocks without a live page
+pub record MarksFree (s : Shape) (h : History) (free : FreeSet) : Type 0 where
+  pub marked : (b : ℕ) → has_block free b ≡ (nat_lt b s.blocks && not (block_in_use h b))
+  pub size : s.blocks ≤ free.blocks
 
 -- the block that becomes free by an event: that of the page that is freed, if it has one
 abbrev pub IsFreed : History → What → Option ℕ → Type 0

@@ -12,9 +12,10 @@ use thp_history::{CheckFault, Event, Shape};
 /// The node may have any number of blocks, pages of order 2 to 9, and any threshold. Fails with `Illegal` at the first event that
 /// does not fit, and with `OutOfMemory` if memory for the pages and flights of the replay can't be allocated.
 ///
-/// The check takes one pass. Its memory depends on the node's pages and flights, not on the length of the history. The work for
+/// The check takes one pass. Its memory depends on the pages alive at once, not on the
+/// number of blocks or the length of the history. The work for
 /// an event does not depend on the number of pages queued or in flight, with one exception: the search for a caller's first page
-/// passes the pages of callers whose numbers have the same low six bits.
+/// passes the pages of callers whose numbers have the same low twelve bits.
 pub fn check(alloc: Global, shape: Shape, events: &[Event]) -> Result<(), CheckFault>
     requires least { min_order ≤ shape.order }
     requires most { shape.order ≤ max_order }

@@ -5,17 +5,17 @@ ghost use Rattle.thp_check.specs.Flights.{blocks_in, flight_left};
 
 use std::alloc::{AllocError, Global};
 use std::marker::Model;
-use thp_links::{LinkVec, Queue};
+use thp_links::{LinkVec, Queue, ReservedVec};
 
 // The number of lists. A node has as many callers, so each of its callers has a list of its own; callers of other histories can
 // share one.
-const LISTS: u32 = 64;
+const LISTS: u32 = 4096;
 
 // The blocks of the pages in flight, in lists by the low bits of the caller, each in the order of the takes.
 #[derive(Drop)]
 pub(crate) struct Flights {
     // The caller of each block that is in a list; arbitrary for other blocks.
-    callers: Vec<u32>,
+    callers: ReservedVec<u32>,
     lists: Vec<Queue>,
     links: LinkVec,
 }
@@ -25,13 +25,14 @@ impl Model for Flights {
 
     ghost Value = { FlightsState };
 
-    ghost view = { λ f. record { callers = f.callers.items; lists = f.lists.items } };
+    ghost view = { λ f. record { callers = f.callers; lists = f.lists.items } };
 
-    ghost invariant = { λ f. AreLinked f.callers.items f.lists.items f.links.pairs };
+    ghost invariant = { λ f. AreLinked f.callers f.lists.items f.links.pairs };
 }
 
 impl Flights {
-    // No page in flight, on a node of `blocks` blocks. Allocates all memory that the flights will need.
+    // No page in flight, on a node of `blocks` blocks. Reserves all memory that the flights will need; it is taken up to the
+    // greatest block in flight.
     pub(crate) fn new(alloc: Global, blocks: u32) -> Result<Flights, AllocError>
         ensures empty { IfOk result (λ f. (c : ℕ) → blocks_in f c ≡ []) }
         ensures size { IfOk result (λ f. length f.callers ≡ blocks) }
@@ -41,7 +42,7 @@ impl Flights {
             lists.push_reserved(Queue::new());
         }
         Ok(Flights {
-            callers: vec![in alloc; 0; blocks as usize]?,
+            callers: ReservedVec::new(alloc, blocks, 0)?,
             lists,
             links: LinkVec::new(alloc, blocks)?,
         })
@@ -54,7 +55,7 @@ impl Flights {
         let list = &self.lists[list_of(caller)];
         let mut block = list.front()?;
         for _place in 0..list.len() {
-            if self.callers[block as usize] == caller {
+            if self.callers.at(block) == caller {
                 return Some(block);
             }
             block = self.links.peek_next(block);
@@ -73,7 +74,7 @@ impl Flights {
             None => return Ok(blocks),
         };
         for _place in 0..list.len() {
-            if self.callers[block as usize] == caller {
+            if self.callers.at(block) == caller {
                 blocks.push(block)?;
             }
             block = self.links.peek_next(block);
@@ -88,7 +89,7 @@ impl Flights {
         ensures joined { (c : ℕ) → blocks_in self.new c ≡ cond (nat_eq caller c) (blocks_in self.old c ++ block ∷ []) (blocks_in self.old c) }
         ensures size { length self.new.callers ≡ length self.old.callers }
     {
-        self.callers[block as usize] = caller;
+        self.callers.set(block, caller);
         let list = &mut self.lists[list_of(caller)];
         list.push_back(&mut self.links, block);
     }
@@ -108,8 +109,8 @@ impl Flights {
 
 // The list in which the pages of a caller are.
 fn list_of(caller: u32) -> usize
-    ensures value { result ≡ caller % 64 }
-    ensures inside { result < 64 }
+    ensures value { result ≡ caller % 4096 }
+    ensures inside { result < 4096 }
 {
     (caller % LISTS) as usize
 }

@@ -4,7 +4,7 @@
 //! takes events one by one. Legality is `IsLegal` and `IsFirstMisfit` of `thp_history`; `Explains` (`Reasons`) defines each
 //! reason.
 //!
-//! - `checking`, `replay`, `node_state` (one step for each kind of event), `flights` (64 lists of blocks by the low bits of the
+//! - `checking`, `replay`, `node_state` (one step for each kind of event), `flights` (4,096 lists of blocks by the low bits of the
 //!   caller; proofs `FlightLists`, `FlightBlocks`), free blocks (`Freeing`, proof `FreeMarks`).
 //! - `misfit`: the reasons. A new reason needs its meaning in `Reasons`, its step in `node_state`, its words in `reason_text`.
 //! - `explanation`, `expected`, `reason_text`, `pieces`: the text of [`put_explanation`], exactly that of `Explanations`; `laws`

@@ -1,7 +1,8 @@
 //! A replay of a history, event by event.
-ghost use Rattle.std.specs.Prelude.{◌≡◌, ◌≤◌, ◌<◌, ◌+◌, ◌*◌, ◌^◌, ℕ, [], ◌∷◌, ◌++◌, length, slice_get, IfOk, IfErr, IfSome};
-ghost use Rattle.thp_history.specs.Prelude.{least_free, allocations, is_closed, History, by, Fits, IsLegal, max_order, min_order, queue, in_words, IsContext};
+ghost use Rattle.std.specs.Prelude.{◌≡◌, ◌≤◌, ◌<◌, ◌+◌, ◌^◌, ℕ, [], ◌∷◌, ◌++◌, length, slice_get, IfOk, IfErr, IfSome};
+ghost use Rattle.thp_history.specs.Prelude.{least_free, allocations, is_closed, History, by, Fits, IsLegal, max_order, min_order, queue, IsContext};
 ghost use Rattle.thp_history.specs.declared.shape.Shape.{Shape};
+ghost use Rattle.thp_live_pages.specs.Prelude.{has_block};
 ghost use Rattle.thp_check.specs.Prelude.{Explains, IsFreed, Means, free_after, replayed_with, taken_block};
 
 mod reading;
@@ -40,7 +41,8 @@ impl Model for Replay {
 
 impl Replay {
     /// Creates a replay with no event, on a node of this shape. The node may have any number of blocks, pages of order 2 to 9,
-    /// and any threshold. Fails if memory for its pages and flights can't be allocated; events allocate none.
+    /// and any threshold. Fails if memory for its pages and flights can't be reserved; it is taken as
+    /// blocks are used, and events allocate none.
     pub fn new(alloc: Global, shape: Shape) -> Result<Replay, AllocError>
         requires least { min_order ≤ shape.order }
         requires most { shape.order ≤ max_order }
@@ -141,10 +143,10 @@ fn context_of(state: &NodeState, what: &What) -> SplitContext
 
 // Records that an event took a block, or that one became free.
 fn mark(free: &mut FreeBlocks, what: &What, freed: Option<u32>)
-    requires taken { IfSome (taken_block what.now) (λ b. b < 64 * length free.old) }
-    requires freed { IfSome freed (λ b. b < 64 * length free.old) }
-    ensures marked { (b : ℕ) → in_words free.new b ≡ free_after (taken_block what.now) freed b (in_words free.old b) }
-    ensures size { length free.new ≡ length free.old }
+    requires taken { IfSome (taken_block what.now) (λ b. b < free.old.blocks) }
+    requires freed { IfSome freed (λ b. b < free.old.blocks) }
+    ensures marked { (b : ℕ) → has_block free.new b ≡ free_after (taken_block what.now) freed b (has_block free.old b) }
+    ensures blocks { free.new.blocks ≡ free.old.blocks }
 {
     if let What::Alloc { block, .. } = *what {
         free.remove(block);

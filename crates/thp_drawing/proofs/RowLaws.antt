@@ -5,7 +5,7 @@ use Rattle.std.proofs.lemmas.List.Sums.{count_by-le-length}
 use Rattle.std.proofs.lemmas.Nat.{mul-le, shl-shr}
 use Rattle.thp_history.specs.declared.events.Event.{Event}
 use Rattle.thp_history.specs.declared.shape.Shape.{Shape}
-use Rattle.thp_history.specs.Prelude.{allocations, is_alloc, FramesAreKept, History, count_of, IsLegal, subpages, IsShape}
+use Rattle.thp_history.specs.Prelude.{allocations, is_alloc, FramesAreKept, History, count_of, IsLegal, subpages, IsNodeShape}
 use Rattle.thp_drawing.specs.Drawn.{IsDrawn}
 use Rattle.thp_drawing.specs.Rows.{allocated_pages}
 use Rattle.thp_drawing.specs.Scales.{plus}
@@ -25,7 +25,7 @@ pages_of k n held given low few same =
     let order : min k 9 ≡ k = omega (arith, low) in
     rw (order, whole) (shl-shr n k)
 
-pub each_has_its_row : FramesAreKept → (s : Shape) (h : History) (d : DrawnNode) → IsShape s → IsLegal s h → length h < 2 ^ 64
+pub each_has_its_row : FramesAreKept → (s : Shape) (h : History) (d : DrawnNode) → IsNodeShape s → IsLegal s h → length h < 2 ^ 64
     → IsDrawn s h d → allocated_pages d ≡ allocations h
 unfolding subpages
 each_has_its_row kept s h d shape legal few drawn = grind (arith, pages_of, few_pages)

@@ -4,6 +4,7 @@ pub mod Bars
 pub mod Drawn
 pub mod Elements
 pub mod Escapes
+pub mod Grids
 pub mod Grouped
 pub mod Lanes
 pub mod Laws

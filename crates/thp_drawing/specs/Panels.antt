@@ -1,27 +1,28 @@
 -- The panels of a node. A panel without content is left out.
 use Rattle.std.specs.Prelude.{ℕ, List, [], ◌∷◌, ◌++◌, codes, if◌then◌else◌, nat_eq}
 use Rattle.thp_metrics.specs.declared.stage.Stage.{Stage}
+use Rattle.thp_metrics.specs.Prelude.{shown_pages}
 use Rattle.thp_metrics.specs.declared.stage.Stage.TheVariants.{Allocated, PartlyMapped, Queued, InBatch, Split}
 use Rattle.thp_drawing.specs.Areas.{quantity_areas, stage_area}
 use Rattle.thp_drawing.specs.Axes.{base_line, event_rules, ticks}
-use Rattle.thp_drawing.specs.Elements.{group_start, item_at}
+use Rattle.thp_drawing.specs.Elements.{group_start, item_at, text_at}
 use Rattle.thp_drawing.specs.Grouped.{grouped}
 use Rattle.thp_drawing.specs.Lanes.{all_lanes, lanes_height}
 use Rattle.thp_drawing.specs.Quantities.{last_of, most_in, most_of, pages_most, quantity_class, quantity_name, quantity_step, quantity_unit}
 use Rattle.thp_drawing.specs.Quantities.{stage_class, stage_name}
-use Rattle.thp_drawing.specs.Rows.{allocated_pages, has_rows, rows_drawn, rows_height}
+use Rattle.thp_drawing.specs.Rows.{allocated_pages, first_rows_height, has_rows, rows_drawn, rows_height}
 use Rattle.thp_drawing.specs.Scales.{plus, round_step, scaled, steps_in, times}
 use Rattle.thp_drawing.specs.declared.node.DrawnNode.{DrawnNode}
 use Rattle.thp_drawing.specs.declared.quantity.Quantity.{Quantity}
 use Rattle.thp_drawing.specs.declared.quantity.Quantity.TheVariants.{Queue, InBatches, Held, Given, Splits, PinnedTries, UnderusedSplits, Wait, Nothing}
 use Rattle.thp_drawing.specs.declared.panel.Panel.{Panel}
-use Rattle.thp_drawing.specs.declared.panel.Panel.TheVariants.{Quantities, Lanes, Rows, Stages}
+use Rattle.thp_drawing.specs.declared.panel.Panel.TheVariants.{FirstRows, Lanes, Quantities, Rows, Stages}
 
--- the panels of a node, from top to bottom; the last has a row for each page, or the number of pages in each stage
+-- the panels of a node, from top to bottom; one has a row for each page, or the number of pages in each stage
 abbrev pub panels_of : DrawnNode → List Panel
 panels_of d =
     Quantities Queue InBatches ∷ Lanes ∷ Quantities Wait Nothing ∷ Quantities Held Given ∷ Quantities Splits PinnedTries
-    ∷ Quantities UnderusedSplits Nothing ∷ (if has_rows d then Rows else Stages) ∷ []
+    ∷ Quantities UnderusedSplits Nothing ∷ (if has_rows d then Rows else Stages) ∷ FirstRows ∷ []
 
 -- what the numbers of a panel count
 abbrev pub unit_of : Panel → List ℕ
@@ -29,6 +30,7 @@ unit_of (Quantities up down) = quantity_unit up
 unit_of Lanes = codes "caller"
 unit_of Rows = codes "page"
 unit_of Stages = codes "pages"
+unit_of FirstRows = codes "page"
 
 -- the height of what is drawn on a scale whose greatest number is this
 abbrev pub height_of : ℕ → ℕ
@@ -40,6 +42,7 @@ content_height (Quantities up down) d = height_of (plus (most_of up d.columns.it
 content_height Lanes d = lanes_height d
 content_height Rows d = rows_height (allocated_pages d)
 content_height Stages d = height_of (pages_most d)
+content_height FirstRows d = first_rows_height d
 
 -- a quantity's name, its greatest number, and its number after the last event
 abbrev pub quantity_words : Quantity → DrawnNode → List ℕ
@@ -90,18 +93,25 @@ stages_drawn d =
     ++ stage_area Split d ++ stage_area InBatch d ++ stage_area Queued d ++ stage_area PartlyMapped d ++ stage_area Allocated d
     ++ base_line
 
+-- which pages have rows, of so many
+abbrev pub first_words : ℕ → List ℕ
+first_words count =
+    text_at (codes "ink") 0 150 (codes "rows of 60 of " ++ grouped count ++ codes " pages: those allocated first")
+
 -- the colours and words above a panel's content
 abbrev pub panel_title : Panel → DrawnNode → List ℕ
 panel_title (Quantities up down) d = quantity_item up 0 d ++ quantity_item down 3000 d
 panel_title Lanes d = item_at (codes "s3") 0 (codes "pages in its batch at least once in a column")
 panel_title Rows d = stage_items d
 panel_title Stages d = stage_items d
+panel_title FirstRows d = first_words (allocated_pages d)
 
 abbrev pub panel_content : Panel → DrawnNode → List ℕ
 panel_content (Quantities up down) d = quantity_halves up down d
 panel_content Lanes d = all_lanes d.columns.items
 panel_content Rows d = rows_drawn (allocated_pages d) d
 panel_content Stages d = stages_drawn d
+panel_content FirstRows d = rows_drawn shown_pages d
 
 -- the beginning of a panel, from this height on: what its numbers count
 unfoldable pub panel_start : ℕ → List ℕ → List ℕ

@@ -1,7 +1,8 @@
 -- The picture of a journal's nodes, as SVG: 7,200 units wide, and as high as its nodes are.
-use Rattle.std.specs.Prelude.{ℕ, ◌+◌, List, [], ◌∷◌, ◌++◌, Option, Some, None, codes, decimal}
+use Rattle.std.specs.Prelude.{ℕ, ◌+◌, List, [], ◌∷◌, ◌++◌, length, Option, Some, None, codes, decimal, if◌then◌else◌, nat_le}
 use Rattle.thp_drawing.specs.Axes.{event_axis}
 use Rattle.thp_drawing.specs.Elements.{group_end, group_start, text_at}
+use Rattle.thp_drawing.specs.Grids.{cells_drawn, cells_foot, cells_of, cells_top, extents_of, grid_heads}
 use Rattle.thp_drawing.specs.Overviews.{overview, overview_foot, title_foot}
 use Rattle.thp_drawing.specs.Panels.{panels_drawn, panels_foot, panels_of}
 use Rattle.thp_drawing.specs.Scales.{plus}
@@ -56,20 +57,41 @@ picture_order_words = codes "The events of a node follow each other from left to
 abbrev pub column_words : List ℕ
 column_words = codes "Full colour: a column's least number; pale: its greatest; stacks: its mean; bars of pages: its last stage."
 
--- the beginning of a picture of this height, with its title
-unfoldable pub head : ℕ → List ℕ
-head high =
-    (codes "<svg xmlns=\"http://www.w3.org/2000/svg\" viewBox=\"0 0 7200 " ++ decimal high
+-- the beginning of a picture of this height
+unfoldable pub picture_start : ℕ → List ℕ
+picture_start high =
+    codes "<svg xmlns=\"http://www.w3.org/2000/svg\" viewBox=\"0 0 7200 " ++ decimal high
     ++ codes "\" role=\"img\" aria-labelledby=\"title desc\">\n" ++ name_words ++ style
-    ++ codes "<rect class=\"bg\" x=\"0\" y=\"0\" width=\"7200\" height=\"" ++ decimal high ++ codes "\"/>\n")
-    ++ text_at (codes "ink hh") 150 300 (codes "Deferred split queues") ++ text_at (codes "soft") 150 480 picture_order_words
-    ++ text_at (codes "soft") 150 640 column_words
+    ++ codes "<rect class=\"bg\" x=\"0\" y=\"0\" width=\"7200\" height=\"" ++ decimal high ++ codes "\"/>\n"
 
--- the picture of nodes
-unfoldable pub picture_text : List DrawnNode → List ℕ
-picture_text nodes =
+-- the title, and the caption about the order of events
+unfoldable pub picture_titles : List ℕ
+picture_titles = text_at (codes "ink hh") 150 300 (codes "Deferred split queues") ++ text_at (codes "soft") 150 480 picture_order_words
+
+-- the beginning of a picture of this height, with its title and captions
+unfoldable pub head : ℕ → List ℕ
+head high = picture_start high ++ picture_titles ++ text_at (codes "soft") 150 640 column_words
+
+-- the picture of nodes with all their panels
+unfoldable pub full_picture : List DrawnNode → List ℕ
+full_picture nodes =
     head (foot_of (overview_foot nodes) nodes) ++ overview nodes
     ++ nodes_drawn (overview_foot nodes) 0 nodes ++ codes "</svg>\n"
+
+-- the picture of the first nodes, each drawn small
+unfoldable pub grid_picture : List DrawnNode → List ℕ
+grid_picture nodes =
+    picture_start (cells_foot cells_top (length (cells_of nodes))) ++ picture_titles
+    ++ grid_heads (length nodes) (extents_of (cells_of nodes))
+    ++ cells_drawn cells_top (extents_of (cells_of nodes)) 0 (cells_of nodes) ++ codes "</svg>\n"
+
+-- up to so many nodes are drawn with all their panels
+abbrev pub full_nodes : ℕ
+full_nodes = 8
+
+-- the picture of nodes
+abbrev pub picture_text : List DrawnNode → List ℕ
+picture_text nodes = if nat_le (length nodes) full_nodes then full_picture nodes else grid_picture nodes
 
 -- the picture of node n alone, with its number
 unfoldable pub node_picture : ℕ → DrawnNode → List ℕ

@@ -1,5 +1,5 @@
 -- The individual pages of a node, if few were allocated: a row for each, whose bars show its stages.
-use Rattle.std.specs.Prelude.{ℕ, zero, suc, Bool, false, ◌+◌, ◌-◌, ◌/◌, ◌^◌, ◌&&◌, min, List, [], ◌++◌, codes, if◌then◌else◌, nat_eq, nat_le}
+use Rattle.std.specs.Prelude.{ℕ, zero, suc, Bool, false, ◌+◌, ◌-◌, ◌/◌, ◌^◌, ◌&&◌, min, List, [], ◌++◌, codes, if◌then◌else◌, nat_eq, nat_le, nat_lt}
 use Rattle.thp_history.specs.Prelude.{max_order}
 use Rattle.thp_metrics.specs.declared.column.Column.{Column}
 use Rattle.thp_metrics.specs.declared.stage.Stage.{Stage}
@@ -56,6 +56,14 @@ row_middle high p = plus (times high p) (high / 2)
 -- the height of all rows
 abbrev pub rows_height : ℕ → ℕ
 rows_height count = times (row_height count) count
+
+-- with more than so many pages, the first 60 have rows below the number of pages in each stage, if their bars can be distinguished
+abbrev pub many_pages : ℕ
+many_pages = 1000
+
+abbrev pub first_rows_height : DrawnNode → ℕ
+first_rows_height d =
+    if nat_lt many_pages (allocated_pages d) && nat_le (row_turns d.columns.items) max_turns then rows_height shown_pages else 0
 
 -- every row has its number, or every second if they are spaced closely
 abbrev pub number_step : ℕ → ℕ

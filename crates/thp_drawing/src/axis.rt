@@ -40,8 +40,8 @@ pub(crate) fn put_tick(text: &mut Vec<u8>, sign: &[u8], number: u128, high: u128
     )
 }
 
-// The number of events that there is room for.
-fn room_of(node: &DrawnNode) -> u128
+/// Returns the number of events that there is room for.
+pub(crate) fn room_of(node: &DrawnNode) -> u128
     ensures { result ≡ room_of node.now }
 {
     times(u128::from(node.width), node.columns.len() as u128)

@@ -1,7 +1,7 @@
 //! Bars over a node's columns: the rows of its pages, one for each, and the lanes of callers' batches.
 ghost use Rattle.std.specs.Prelude.{◌≡◌, ◌≤◌, ◌++◌, false, length, OnOk, ◌*◌};
 ghost use Rattle.thp_drawing.specs.Bars.{bar_at, bar_covers, bar_turns, is_among, line_turn, stage_in};
-ghost use Rattle.thp_drawing.specs.Rows.{allocated_pages, has_rows, page_turns, row_class, row_height, row_middle, row_turns, rows_drawn, rows_height, stage_bars, stage_rows};
+ghost use Rattle.thp_drawing.specs.Rows.{allocated_pages, first_rows_height, has_rows, page_turns, row_class, row_height, row_middle, row_turns, rows_drawn, rows_height, stage_bars, stage_rows};
 ghost use Rattle.thp_drawing.specs.Lanes.{all_lanes, all_turns, has_lane, lane_count, lane_drawn, lanes_height};
 ghost use Rattle.thp_drawing.specs.Laws.{EachPageHasItsRow};
 
@@ -173,12 +173,25 @@ fn row_class(count: u128) -> &'static [u8]
     }
 }
 
-/// Appends the rows of a node's pages: the numbers of rows and thin lines through them, and bars.
-#[tactic(auto, using(crate::proofs::Pieces::six), unfolding(crate::specs::Rows::rows_drawn))]
-pub(crate) fn put_rows(text: &mut Vec<u8>, node: &DrawnNode) -> PutResult
-    ensures { OnOk result (text.new.items ≡ text.old.items ++ rows_drawn (allocated_pages node.now) node.now) }
+// The number of pages above which rows of the first pages are drawn below the number of pages in each stage.
+const MANY_PAGES: u128 = 1000;
+
+/// Returns the height of the rows of a node's first pages: 0 if few pages were allocated, or if their bars can't be distinguished.
+pub(crate) fn first_rows_height(node: &DrawnNode) -> u128
+    ensures { result ≡ first_rows_height node.now }
 {
-    let count = allocated_pages(node);
+    if MANY_PAGES < allocated_pages(node) && row_turns(node.columns.as_slice()) <= MAX_TURNS {
+        rows_height(SHOWN_PAGES as u128)
+    } else {
+        0
+    }
+}
+
+/// Appends the rows of a node's first pages, this many: the numbers of rows and thin lines through them, and bars.
+#[tactic(auto, using(crate::proofs::Pieces::six), unfolding(crate::specs::Rows::rows_drawn))]
+pub(crate) fn put_rows(text: &mut Vec<u8>, count: u128, node: &DrawnNode) -> PutResult
+    ensures { OnOk result (text.new.items ≡ text.old.items ++ rows_drawn count node.now) }
+{
     let high = row_height(count);
     let step = if count <= FEW_ROWS { 1 } else { 2 };
     for before in 0..steps_in(step, plus(count, step - 1)) {

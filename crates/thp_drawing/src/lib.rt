@@ -18,6 +18,7 @@ mod axis;
 mod bar;
 mod element;
 mod escaping;
+mod grid;
 mod node;
 mod overview;
 mod panel;

@@ -1,17 +1,19 @@
 //! The panels of a node.
 ghost use Rattle.std.specs.Prelude.{◌≡◌, ◌++◌, [], codes, OnOk};
-ghost use Rattle.thp_drawing.specs.Panels.{lower_end, content_height, height_of, panel_at, panel_content, panel_start, panel_title, panels_drawn, panels_foot, panels_of, half_most, quantity_half, quantity_halves, quantity_item, unit_of};
+ghost use Rattle.thp_drawing.specs.Panels.{lower_end, content_height, first_words, height_of, panel_at, panel_content, panel_start, panel_title, panels_drawn, panels_foot, panels_of, half_most, quantity_half, quantity_halves, quantity_item, unit_of};
 
 use crate::area::put_quantity_areas;
 use crate::axis::{BASE_LINE, put_event_rules, put_ticks};
-use crate::bar::{allocated_pages, has_rows, lanes_height, put_lanes, put_rows, rows_height};
-use crate::element::{PutResult, draw, pieces, put_group, put_item};
+use crate::bar::{
+    allocated_pages, first_rows_height, has_rows, lanes_height, put_lanes, put_rows, rows_height,
+};
+use crate::element::{PutResult, draw, pieces, put_group, put_item, put_words};
 use crate::node::DrawnNode;
 use crate::quantity::Quantity;
 use crate::scale::{plus, scaled, steps_in, times};
 use crate::stages::{pages_most, put_stage_items, put_stages};
 use thp_journal_writer::put;
-use thp_metrics::Column;
+use thp_metrics::{Column, SHOWN_PAGES};
 
 /// A panel of a node.
 #[derive(Clone, Copy, Debug, PartialEq, Eq)]
@@ -24,6 +26,8 @@ pub(crate) enum Panel {
     Rows,
     /// The number of pages in each stage.
     Stages,
+    /// A row for each of the first pages, of many.
+    FirstRows,
 }
 
 impl Panel {
@@ -34,7 +38,7 @@ impl Panel {
         match self {
             Panel::Quantities(up, _) => up.words().2,
             Panel::Lanes => b"caller",
-            Panel::Rows => b"page",
+            Panel::Rows | Panel::FirstRows => b"page",
             Panel::Stages => b"pages",
         }
     }
@@ -51,6 +55,7 @@ impl Panel {
             Panel::Lanes => lanes_height(node),
             Panel::Rows => rows_height(allocated_pages(node)),
             Panel::Stages => height_of(pages_most(node)),
+            Panel::FirstRows => first_rows_height(node),
         }
     }
 }
@@ -73,8 +78,8 @@ fn below(y: u128, high: u128) -> u128
     }
 }
 
-// The panels of a node, from top to bottom. The last has a row for each page, or the number of pages in each stage.
-fn panels_of(node: &DrawnNode) -> [Panel; 7]
+// The panels of a node, from top to bottom. One has a row for each page, or the number of pages in each stage.
+fn panels_of(node: &DrawnNode) -> [Panel; 8]
     ensures { result ≡ panels_of node.now }
 {
     [
@@ -89,6 +94,7 @@ fn panels_of(node: &DrawnNode) -> [Panel; 7]
         } else {
             Panel::Stages
         },
+        Panel::FirstRows,
     ]
 }
 
@@ -160,6 +166,7 @@ fn put_panel_title(text: &mut Vec<u8>, panel: Panel, node: &DrawnNode) -> PutRes
             put_item(text, b"s3", 0, &words)
         }
         Panel::Rows | Panel::Stages => put_stage_items(text, node),
+        Panel::FirstRows => put_first_words(text, allocated_pages(node)),
     }
 }
 
@@ -169,9 +176,20 @@ fn put_panel_content(text: &mut Vec<u8>, panel: Panel, node: &DrawnNode) -> PutR
     match panel {
         Panel::Quantities(up, down) => put_quantity_halves(text, up, down, node),
         Panel::Lanes => put_lanes(text, node.columns.as_slice()),
-        Panel::Rows => put_rows(text, node),
+        Panel::Rows => put_rows(text, allocated_pages(node), node),
         Panel::Stages => put_stages(text, node),
+        Panel::FirstRows => put_rows(text, SHOWN_PAGES as u128, node),
     }
+}
+
+// Which pages have rows, of this many.
+fn put_first_words(text: &mut Vec<u8>, count: u128) -> PutResult
+    ensures { OnOk result (text.new.items ≡ text.old.items ++ first_words count) }
+{
+    let words = pieces!(
+        Bytes(b"rows of 60 of ") Grouped(count) Bytes(b" pages: those allocated first")
+    );
+    put_words(text, b"ink", 0, 150, &words)
 }
 
 // A quantity's colour and words, if it has any number other than 0.

@@ -1,9 +1,10 @@
 //! The picture of nodes, as SVG, and its appearance.
 ghost use Rattle.std.specs.Prelude.{◌≡◌, ◌++◌, OnOk};
-ghost use Rattle.thp_drawing.specs.Pictures.{axis_top, foot_of, head, node_drawn, node_height, node_picture, nodes_drawn, pages_top, picture_text, stuck_top};
+ghost use Rattle.thp_drawing.specs.Pictures.{axis_top, foot_of, full_picture, grid_picture, head, node_drawn, node_height, node_picture, nodes_drawn, pages_top, picture_start, picture_text, picture_titles, stuck_top};
 
 use crate::axis::put_event_axis;
 use crate::element::{GROUP_END, PutResult, draw, put_group, put_text};
+use crate::grid::{CELLS_TOP, cells_foot, cells_of, extents_of, put_cells, put_grid_heads};
 use crate::node::{DrawnNode, IllegalEvent};
 use crate::overview::{TITLE_FOOT, overview_foot, put_overview};
 use crate::panel::{panels_foot, put_panels};
@@ -25,11 +26,25 @@ const ORDER_WORDS: &[u8] =
 const COLUMN_WORDS: &[u8] =
     b"Full colour: a column's least number; pale: its greatest; stacks: its mean; bars of pages: its last stage.";
 
-/// Appends the picture of nodes, which are numbered from 0, to a text. If memory can't be allocated, the text can contain a
-/// prefix of it.
-#[tactic(auto, using(crate::proofs::Pieces::four), unfolding(crate::specs::Pictures::picture_text))]
+// Up to this many nodes are drawn with all their panels.
+const FULL_NODES: usize = 8;
+
+/// Appends the picture of nodes, which are numbered from 0, to a text: of more than eight, the first 256 are drawn small. If memory
+/// can't be allocated, the text can contain a prefix of it.
 pub fn put_picture(text: &mut Vec<u8>, nodes: &[DrawnNode]) -> Result<(), AllocError>
     ensures { OnOk result (text.new.items ≡ text.old.items ++ picture_text nodes.now) }
+{
+    if nodes.len() <= FULL_NODES {
+        put_full_picture(text, nodes)
+    } else {
+        put_grid_picture(text, nodes)
+    }
+}
+
+// The picture of nodes with all their panels.
+#[tactic(auto, using(crate::proofs::Pieces::four), unfolding(crate::specs::Pictures::full_picture))]
+fn put_full_picture(text: &mut Vec<u8>, nodes: &[DrawnNode]) -> PutResult
+    ensures { OnOk result (text.new.items ≡ text.old.items ++ full_picture nodes.now) }
 {
     let top = overview_foot(nodes);
     put_head(text, foot_of(top, nodes))?;
@@ -39,6 +54,20 @@ pub fn put_picture(text: &mut Vec<u8>, nodes: &[DrawnNode]) -> Result<(), AllocE
         put_node(text, y, number, node)?;
         y = plus(y, node_height(node));
     }
+    put(text, b"</svg>\n")
+}
+
+// The picture of the first nodes, each drawn small.
+#[tactic(auto, using(crate::proofs::Pieces::five), unfolding(crate::specs::Pictures::grid_picture))]
+fn put_grid_picture(text: &mut Vec<u8>, nodes: &[DrawnNode]) -> PutResult
+    ensures { OnOk result (text.new.items ≡ text.old.items ++ grid_picture nodes.now) }
+{
+    let cells = cells_of(nodes);
+    let extents = extents_of(cells);
+    put_start(text, cells_foot(CELLS_TOP, cells.len() as u128))?;
+    put_titles(text)?;
+    put_grid_heads(text, nodes.len() as u128, extents)?;
+    put_cells(text, CELLS_TOP, extents, cells)?;
     put(text, b"</svg>\n")
 }
 
@@ -61,15 +90,31 @@ pub fn put_node_picture(
 fn put_head(text: &mut Vec<u8>, high: u128) -> PutResult
     ensures { OnOk result (text.new.items ≡ text.old.items ++ head high) }
 {
+    put_start(text, high)?;
+    put_titles(text)?;
+    put_text(text, b"soft", 150, 640, COLUMN_WORDS)
+}
+
+// The beginning of a picture of this height.
+#[tactic(auto, unfolding(crate::specs::Pictures::picture_start))]
+fn put_start(text: &mut Vec<u8>, high: u128) -> PutResult
+    ensures { OnOk result (text.new.items ≡ text.old.items ++ picture_start high) }
+{
     draw!(text;
         Bytes(b"<svg xmlns=\"http://www.w3.org/2000/svg\" viewBox=\"0 0 7200 ") Decimal(high)
         Bytes(b"\" role=\"img\" aria-labelledby=\"title desc\">\n") Bytes(NAME) Bytes(STYLE)
         Bytes(b"<rect class=\"bg\" x=\"0\" y=\"0\" width=\"7200\" height=\"") Decimal(high)
         Bytes(b"\"/>\n")
-    )?;
+    )
+}
+
+// The title of a picture, and the caption about the order of events.
+#[tactic(auto, using(crate::proofs::Pieces::two), unfolding(crate::specs::Pictures::picture_titles))]
+fn put_titles(text: &mut Vec<u8>) -> PutResult
+    ensures { OnOk result (text.new.items ≡ text.old.items ++ picture_titles) }
+{
     put_text(text, b"ink hh", 150, 300, b"Deferred split queues")?;
-    put_text(text, b"soft", 150, 480, ORDER_WORDS)?;
-    put_text(text, b"soft", 150, 640, COLUMN_WORDS)
+    put_text(text, b"soft", 150, 480, ORDER_WORDS)
 }
 
 // The lower end of the nodes, from this height on.

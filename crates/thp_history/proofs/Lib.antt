@@ -1,4 +1,5 @@
 pub mod Bools
+pub mod Shaping
 pub mod Options
 pub mod Counting
 pub mod ListPlaces

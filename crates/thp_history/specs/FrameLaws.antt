@@ -8,7 +8,7 @@ use Rattle.thp_history.specs.Counts.{is_live, is_split, allocations}
 use Rattle.thp_history.specs.Frames.{is_held, frames_held, frames_given}
 use Rattle.thp_history.specs.Legal.{IsLegal}
 use Rattle.thp_history.specs.Sets.{has, some_below}
-use Rattle.thp_history.specs.Shapes.{subpages, IsShape}
+use Rattle.thp_history.specs.Shapes.{subpages, IsNodeShape}
 use Rattle.thp_history.specs.Underused.{shrinks_underused}
 
 -- the event gave back the frame of subpage i of page p
@@ -23,12 +23,12 @@ gives_frame p i _ = false
 -- plus the number of events that gave it back, is 1 for an allocated page, and 0 for any other
 abbrev pub EachFrameOnce : Type 0
 EachFrameOnce =
-    (s : Shape) (h : History) → IsShape s → IsLegal s h → (p i : ℕ) → i < subpages s →
+    (s : Shape) (h : History) → IsNodeShape s → IsLegal s h → (p i : ℕ) → i < subpages s →
     cond (is_held s h p i) 1 0 + count_of (gives_frame p i) h ≡ cond (nat_lt p (allocations h)) 1 0
 
 -- in sum, the frames of all allocated pages are those held and those given back
 abbrev pub FramesAreKept : Type 0
-FramesAreKept = (s : Shape) (h : History) → IsShape s → IsLegal s h → subpages s * allocations h ≡ frames_held s h + frames_given h
+FramesAreKept = (s : Shape) (h : History) → IsNodeShape s → IsLegal s h → subpages s * allocations h ≡ frames_held s h + frames_given h
 
 -- a page holds a frame exactly while it is live, with one exception: while the switch is on, a split page may have only mappings
 -- of the shared zero page. While the switch is off, a block is therefore free exactly if none of its frames is held

@@ -1,9 +1,13 @@
 -- The limits of this project's profile; each is defined here only.
 use Rattle.std.specs.Prelude.{ℕ}
 
--- the greatest number of blocks of a node
+-- the greatest number of blocks of a node in scripts and in journals of version 1 to 3
 abbrev pub max_blocks : ℕ
 max_blocks = 4096
+
+-- the greatest number of blocks of any node
+abbrev pub max_node_blocks : ℕ
+max_node_blocks = 16777216
 
 -- the least and the greatest order of a page
 abbrev pub min_order : ℕ
@@ -16,9 +20,13 @@ max_order = 9
 abbrev pub max_subpages : ℕ
 max_subpages = 512
 
--- the greatest number of callers of a node; they are numbered from 0
+-- the greatest number of callers of a node in scripts and in journals of version 1 to 3; they are numbered from 0
 abbrev pub max_callers : ℕ
 max_callers = 64
+
+-- the greatest number of callers of any node
+abbrev pub max_node_callers : ℕ
+max_node_callers = 4096
 
 -- the greatest number of pages in a batch
 abbrev pub max_batch : ℕ

@@ -13,7 +13,7 @@ unfoldable pub use Rattle.thp_history.specs.Frames.{given}
 pub use Rattle.thp_history.specs.History.{History, by}
 unfoldable pub use Rattle.thp_history.specs.History.{count_of, events_of, some_event}
 pub use Rattle.thp_history.specs.Legal.{Fits, FitsAlloc, FitsBy, FitsSplit, FitsTaken, Gives, IsFirstMisfit, IsLegal, is_dropped}
-pub use Rattle.thp_history.specs.Limits.{max_batch, max_blocks, max_callers, max_order, max_subpages, min_order}
+pub use Rattle.thp_history.specs.Limits.{max_batch, max_blocks, max_callers, max_node_blocks, max_node_callers, max_order, max_subpages, min_order}
 pub use Rattle.thp_history.specs.PageCalls.{Gains, Loses, gain_call, gain_what, is_about, loss_call, loss_what, page_call, recorded_call}
 pub use Rattle.thp_history.specs.PageChanges.{page_outcome, page_released}
 pub use Rattle.thp_history.specs.Pages.{IsFresh, IsPage, KeepsCounts, KeepsZero, PageSplit, PageState, PmdSplit, RangeMapped, RangeUnmapped, RangeWritten, RangeZeroed, Tallies, WholeMapped, WholeUnmapped, drops_use, gives_frames, has_use, holds, is_split_candidate, own_at, partly_after, some_in_range, total_at, used_set, zero_at, zero_count, zero_set}
@@ -29,7 +29,7 @@ pub use Rattle.thp_history.specs.Rows.{HasTotals, few_used, first_run, large_pag
 pub use Rattle.thp_history.specs.Runs.{goes_back, is_pinned, next_page, put_back_events, rest_after, return_event, scan_events, split_next_events, still_flying, take_events, tries_of, try_event, unused}
 pub use Rattle.thp_history.specs.Sets.{count_below, covers, has, one_alone, same_set, set_size}
 unfoldable pub use Rattle.thp_history.specs.Sets.{each_below, set_of, some_below, sum_below}
-pub use Rattle.thp_history.specs.Shapes.{IsShape}
+pub use Rattle.thp_history.specs.Shapes.{IsNodeShape, IsShape, IsShapeWithin}
 unfoldable pub use Rattle.thp_history.specs.Shapes.{subpages}
 pub use Rattle.thp_history.specs.Totals.{Adds, AddsUp, HasRoom, IsContext, frames_of, pmds_of, underused_of, with_loss}
 pub use Rattle.thp_history.specs.Underused.{add_unmap, is_above, is_worth_split, shrinks_underused, unmaps_part, unmaps_some, writes, zero_after, zero_filled, zeroes}

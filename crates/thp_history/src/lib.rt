@@ -33,7 +33,7 @@ pub use laws::{
     live_pages_are_apart, no_page_stands_twice, none_is_underused_while_off,
     nothing_enters_after_close, oldest_are_taken, others_only_free, requests_decide,
 };
-pub use limits::{MAX_BATCH, MAX_CALLERS, MAX_SUBPAGES, limits_are_defined};
+pub use limits::{MAX_BATCH, MAX_CALLERS, MAX_NODE_CALLERS, MAX_SUBPAGES, limits_are_defined};
 pub use page_call::{Done, Gain, Loss, PageCall};
 pub use refusal::Refusal;
 pub use rows::{

@@ -8,7 +8,7 @@ use Rattle.thp_history.specs.Prelude.{with_least_blocks, History, IsLegal, IsFir
 use Rattle.thp_history.proofs.LeastBlocks.{least_is_legal, least_same}
 use Rattle.thp_script.specs.declared.fault.TextKind.TheVariants.{TooLong}
 use Rattle.thp_script.specs.Prelude.{◌>>=◌, Fault, Text, lines_of}
-use Rattle.thp_journal_reader.specs.Prelude.{ReadJournals, ReadNode, Line, Head, Node, Happened, End, Start, AreLegalBefore, CanBeLegal, IsLegalNode, ReportsIllegal, node_events, journals_with, journals_within, lines_from, node_journal, nodes_of}
+use Rattle.thp_journal_reader.specs.Prelude.{ReadJournals, ReadNode, Line, Head, Node, Happened, End, Start, Accepted, AreLegalBefore, CanBeLegal, IsLegalNode, ReportsIllegal, node_events, journals_with, journals_accepted, lines_from, node_journal, nodes_of}
 
 -- the first misfit is one of the events
 pub misfit_inside : (shape : Shape) (h : History) (place : ℕ) → IsFirstMisfit shape h place → place < length h
@@ -50,13 +50,13 @@ no_journals fault = Err fault
 lines_read : (long : Bool) (fault : Fault) (read : Result (List Line) Fault) (journals : ReadJournals) → cond long (no_journals fault) (read >>= λ lines. Ok (journals_with lines)) ≡ Ok journals → (lines : List Line) × (journals_with lines ≡ journals)
 lines_read x fault read journals e = grind arith
 
-lines_of_journals : (most : ℕ) (text : Text) (journals : ReadJournals) → journals_within most text ≡ Ok journals → (lines : List Line) × (journals_with lines ≡ journals)
-unfolding journals_within
-lines_of_journals most text journals e = lines_read (nat_lt most (length text)) (0, TooLong) (lines_from 1 Start (lines_of text)) journals e
+lines_of_journals : (v : Accepted) (most : ℕ) (text : Text) (journals : ReadJournals) → journals_accepted v most text ≡ Ok journals → (lines : List Line) × (journals_with lines ≡ journals)
+unfolding journals_accepted
+lines_of_journals v most text journals e = lines_read (nat_lt most (length text)) (0, TooLong) (lines_from 1 (Start v) (lines_of text)) journals e
 
-least_read : (most : ℕ) (text : Text) (journals : ReadJournals) → journals_within most text ≡ Ok journals → All HasLeastBlocks journals.nodes
-least_read most text journals e =
-    let reported = lines_of_journals most text journals e in
+least_read : (v : Accepted) (most : ℕ) (text : Text) (journals : ReadJournals) → journals_accepted v most text ≡ Ok journals → All HasLeastBlocks journals.nodes
+least_read v most text journals e =
+    let reported = lines_of_journals v most text journals e in
     let P : ReadJournals → Type 0 = λ js. All HasLeastBlocks js.nodes in
     subst P reported.1 (all_least reported.0)
 
@@ -85,8 +85,8 @@ none_wronged nodes (Some line) least reported can =
     absurd (misfit_is_illegal node.shape node.events reported.first.place reported.first.misfit legal)
 
 -- the answer to a text is no line where some choice of blocks is legal
-pub free_choice : (most : ℕ) (text : Text) (journals : ReadJournals) (line : Option ℕ) → journals_within most text ≡ Ok journals → ReportsIllegal journals.nodes line → (others : ReadJournals) → journals_within most text ≡ Ok others → All CanBeLegal others.nodes → line ≡ None
-free_choice most text journals line read reported others read-too can =
+pub free_choice : (v : Accepted) (most : ℕ) (text : Text) (journals : ReadJournals) (line : Option ℕ) → journals_accepted v most text ≡ Ok journals → ReportsIllegal journals.nodes line → (others : ReadJournals) → journals_accepted v most text ≡ Ok others → All CanBeLegal others.nodes → line ≡ None
+free_choice v most text journals line read reported others read-too can =
     let same : others ≡ journals = cc in
     let P : ReadJournals → Type 0 = λ js. All CanBeLegal js.nodes in
-    none_wronged journals.nodes line (least_read most text journals read) reported (subst P same can)
+    none_wronged journals.nodes line (least_read v most text journals read) reported (subst P same can)

@@ -95,16 +95,16 @@ illegal_begins nodes illegal first_line shape i =
     }
 
 -- the line of the first illegal event stands before the next line
-pub illegal_before : (nodes : List ReadNode) (illegal : Illegal) (number : ℕ) → IsFirstIllegalEvent nodes illegal → All (IsNodeBefore number) nodes → illegal.line ≤ number
+pub illegal_before : (nodes : List ReadNode) (illegal : Illegal) (number : ℕ) → IsFirstIllegalEvent nodes illegal → All (IsNodeBefore 16777216 number) nodes → illegal.line ≤ number
 illegal_before nodes illegal number i each =
     let l = i.line in
-    let node : IsNodeBefore number l.node = found_has (λ n. IsNodeBefore number n) nodes l.place l.node l.here each in
+    let node : IsNodeBefore 16777216 number l.node = found_has (λ n. IsNodeBefore 16777216 number n) nodes l.place l.node l.here each in
     let lines : l.node.first_line + length l.node.events ≤ number = node.lines in
     let inside : l.first.place < length l.node.events = misfit_inside l.node.shape l.node.events l.first.place l.first.misfit in
     omega (arith, lines, inside, l.first.line_is)
 
 -- its line stands before the next line
-pub first_before : (nodes : List ReadNode) (illegal : Option Illegal) (number most : ℕ) → ReportsFirst nodes illegal → All (IsNodeBefore number) nodes → number ≤ most + 1 → IfSome illegal (λ i. i.line ≤ most + 1)
+pub first_before : (nodes : List ReadNode) (illegal : Option Illegal) (number most : ℕ) → ReportsFirst nodes illegal → All (IsNodeBefore 16777216 number) nodes → number ≤ most + 1 → IfSome illegal (λ i. i.line ≤ most + 1)
 first_before nodes None number most reported each le = tt
 first_before nodes (Some illegal) number most reported each le = omega (arith, illegal_before nodes illegal number reported each)
 

@@ -12,6 +12,7 @@ use Rattle.thp_script.specs.Prelude.{Text, number_of, pieces_at, FastNumber}
 use Rattle.thp_script.proofs.FastParsingLaws.{number_whole, of_some, whole_front}
 use Rattle.thp_script.proofs.TextLaws.{pieces-append}
 use Rattle.thp_history.specs.declared.page_call.Loss.{Loss}
+use Rattle.thp_journal_writer.specs.Prelude.{version_limits}
 use Rattle.thp_journal_reader.specs.Prelude.{EventWord, PageWord, RangeWord, Happened, Version, FastEvent, FastJournalLine, FastEventOperands, FastOutcome, FastSet, FastWord, event_by, event_of, loss_event, page_event, range_event, split_event, unmap_event, outcome_and_word, event_word, outcome_of, page_what, range_what, line_by_words, line_by, set_of_text, set_with}
 use Rattle.thp_journal_reader.proofs.PlainLines.{line_of-read}
 use Rattle.thp_journal_reader.proofs.PlainWords.{event_word_letters, letters_whole}
@@ -74,39 +75,39 @@ parse_set_fast set word text rest line reads = record { word = word; line = line
 
 -- ---- operands
 
-pub parse_page_fast : (name : PageWord) (caller p : ℕ) (text rest : Text) → FastNumber 10 18446744073709551615 text p rest → FastEventOperands (page_event name) caller text (by caller (page_what name p)) rest
+pub parse_page_fast : (v : Version) (name : PageWord) (caller p : ℕ) (text rest : Text) → FastNumber 10 18446744073709551615 text p rest → FastEventOperands v (page_event v name) caller text (by caller (page_what name p)) rest
 unfolding page_event
-parse_page_fast name caller p text rest a = record {
+parse_page_fast v name caller p text rest a = record {
   words = a.word ∷ [];
   line = last_number 18446744073709551615 p text rest a;
   reads = λ w c. rw (c, a.reads) refl;
 }
 
-pub parse_range_fast : (name : RangeWord) (caller p first count : ℕ) (text t1 t2 rest : Text)
+pub parse_range_fast : (v : Version) (name : RangeWord) (caller p first count : ℕ) (text t1 t2 rest : Text)
     → FastNumber 32 18446744073709551615 text p t1 → FastNumber 32 65535 t1 first t2 → FastNumber 10 65535 t2 count rest
-    → FastEventOperands (range_event name) caller text (by caller (range_what name p first count)) rest
+    → FastEventOperands v (range_event v name) caller text (by caller (range_what name p first count)) rest
 unfolding range_event
-parse_range_fast name caller p first count text t1 t2 rest a b d = record {
+parse_range_fast v name caller p first count text t1 t2 rest a b d = record {
   words = a.word ∷ b.word ∷ d.word ∷ [];
   line = number_more 18446744073709551615 p (b.word ∷ d.word ∷ []) text t1 rest a (number_more 65535 first (d.word ∷ []) t1 t2 rest b (last_number 65535 count t2 rest d));
   reads = λ w c. rw (c, a.reads, b.reads, d.reads) refl;
 }
 
-pub parse_loss_fast : (name : Loss) (caller p : ℕ) (outcome : Outcome) (set : List Bool) (text t1 t2 rest : Text)
+pub parse_loss_fast : (v : Version) (name : Loss) (caller p : ℕ) (outcome : Outcome) (set : List Bool) (text t1 t2 rest : Text)
     → FastNumber 32 18446744073709551615 text p t1 → FastOutcome t1 outcome t2 → FastSet set t2 rest
-    → FastEventOperands (loss_event name) caller text (by caller (loss_what name p outcome set)) rest
+    → FastEventOperands v (loss_event v name) caller text (by caller (loss_what name p outcome set)) rest
 unfolding loss_event outcome_and_word
-parse_loss_fast name caller p outcome set text t1 t2 rest a o s = record {
+parse_loss_fast v name caller p outcome set text t1 t2 rest a o s = record {
   words = a.word ∷ o.word ∷ s.word ∷ [];
   line = number_more 18446744073709551615 p (o.word ∷ s.word ∷ []) text t1 rest a (outcome_more outcome (s.word ∷ []) t1 t2 rest o s.line);
   reads = λ w c. rw (o.reads, c, a.reads, s.reads) refl;
 }
 
-pub parse_unmap_fast : (caller p first count : ℕ) (outcome : Outcome) (set : List Bool) (text t1 t2 t3 t4 rest : Text)
+pub parse_unmap_fast : (v : Version) (caller p first count : ℕ) (outcome : Outcome) (set : List Bool) (text t1 t2 t3 t4 rest : Text)
     → FastNumber 32 18446744073709551615 text p t1 → FastNumber 32 65535 t1 first t2 → FastNumber 32 65535 t2 count t3 → FastOutcome t3 outcome t4 → FastSet set t4 rest
-    → FastEventOperands unmap_event caller text (by caller (what.UnmapSub outcome p first count set)) rest
+    → FastEventOperands v (unmap_event v) caller text (by caller (what.UnmapSub outcome p first count set)) rest
 unfolding unmap_event outcome_and_word
-parse_unmap_fast caller p first count outcome set text t1 t2 t3 t4 rest a b d o s = record {
+parse_unmap_fast v caller p first count outcome set text t1 t2 t3 t4 rest a b d o s = record {
   words = a.word ∷ b.word ∷ d.word ∷ o.word ∷ s.word ∷ [];
   line = number_more 18446744073709551615 p (b.word ∷ d.word ∷ o.word ∷ s.word ∷ []) text t1 rest a
       (number_more 65535 first (d.word ∷ o.word ∷ s.word ∷ []) t1 t2 rest b
@@ -114,10 +115,10 @@ parse_unmap_fast caller p first count outcome set text t1 t2 t3 t4 rest a b d o 
   reads = λ w c. rw (o.reads, c, a.reads, b.reads, d.reads, s.reads) refl;
 }
 
-pub parse_split_fast : (caller p : ℕ) (set : List Bool) (text t1 rest : Text) → FastNumber 32 18446744073709551615 text p t1 → FastSet set t1 rest
-    → FastEventOperands split_event caller text (by caller (what.Split p set)) rest
+pub parse_split_fast : (v : Version) (caller p : ℕ) (set : List Bool) (text t1 rest : Text) → FastNumber 32 18446744073709551615 text p t1 → FastSet set t1 rest
+    → FastEventOperands v (split_event v) caller text (by caller (what.Split p set)) rest
 unfolding split_event
-parse_split_fast caller p set text t1 rest a s = record {
+parse_split_fast v caller p set text t1 rest a s = record {
   words = a.word ∷ s.word ∷ [];
   line = number_more 18446744073709551615 p (s.word ∷ []) text t1 rest a s.line;
   reads = λ w c. rw (c, a.reads, s.reads) refl;
@@ -130,7 +131,7 @@ pub word_stands : (v : Version) (name text rest : Text) (word : EventWord) → e
 word_stands v name text rest word reads e = grind (arith, event_word_letters, letters_whole)
 
 -- an event's word and its operands
-of_word : (v : Version) (word : EventWord) (caller : ℕ) (text operands rest : Text) (event : Event) (a : FastWord v text word operands) → FastEventOperands (event_by word) caller operands event rest → FastEventOperands (event_of v) caller text event rest
+of_word : (v : Version) (word : EventWord) (caller : ℕ) (text operands rest : Text) (event : Event) (a : FastWord v text word operands) → FastEventOperands v (event_by v word) caller operands event rest → FastEventOperands v (event_of v) caller text event rest
 of_word v word caller text operands rest event a o = record {
   words = a.name ∷ o.words;
   line = word_more a.name o.words text operands rest a.one_word a.one_line a.stands o.line;
@@ -143,14 +144,14 @@ of_word v word caller text operands rest event a o = record {
 other_word : (word name : Text) (most n : ℕ) → number_of most word ≡ Some n → number_of most name ≡ None → bytes_eq word name ≡ false
 other_word word name most n is none = grind (arith, bytes_eq, bytes_eq-Decides)
 
-after_caller : (v : Version) (word : Text) (words : List Text) (caller : ℕ) (event : Event) → number_of 63 word ≡ Some caller → event_of v word words ≡ Ok event → Ok (Happened event) ≡ line_by_words v (word ∷ words)
+after_caller : (v : Version) (word : Text) (words : List Text) (caller : ℕ) (event : Event) → number_of (version_limits v).last_caller word ≡ Some caller → event_of v word words ≡ Ok event → Ok (Happened event) ≡ line_by_words v (word ∷ words)
 unfolding line_by number_of
 after_caller v word words caller event is says = grind (arith, other_word)
 
 -- a caller and an event's words behind it
-event_is : (v : Version) (text behind rest : Text) (caller : ℕ) (event : Event) → FastNumber 32 63 text caller behind → FastEventOperands (event_of v) caller behind event rest → FastEvent v text event rest
+event_is : (v : Version) (text behind rest : Text) (caller : ℕ) (event : Event) → FastNumber 32 (version_limits v).last_caller text caller behind → FastEventOperands v (event_of v) caller behind event rest → FastEvent v text event rest
 event_is v text behind rest caller event a o =
-    let l = number_more 63 caller o.words text behind rest a o.line in
+    let l = number_more (version_limits v).last_caller caller o.words text behind rest a o.line in
     let says = after_caller v a.word o.words caller event a.reads (o.reads a.word (rw a.reads refl)) in
     record {
       line = l.line;
@@ -159,8 +160,8 @@ event_is v text behind rest caller event a o =
       says = line_of-read v l.line (Happened event) (rw l.words_are says);
     }
 
-pub event_read : {A : Type 0} (v : Version) (text behind operands : Text) (caller : ℕ) (word : EventWord) (read : Option A) (event : A → Event) (rest : A → Text) → FastNumber 32 63 text caller behind → FastWord v behind word operands
-    → IfSome read (λ r. FastEventOperands (event_by word) caller operands (event r) (rest r)) → IfSome read (λ r. FastEvent v text (event r) (rest r))
+pub event_read : {A : Type 0} (v : Version) (text behind operands : Text) (caller : ℕ) (word : EventWord) (read : Option A) (event : A → Event) (rest : A → Text) → FastNumber 32 (version_limits v).last_caller text caller behind → FastWord v behind word operands
+    → IfSome read (λ r. FastEventOperands v (event_by v word) caller operands (event r) (rest r)) → IfSome read (λ r. FastEvent v text (event r) (rest r))
 event_read v text behind operands caller word read event rest a b h =
-    of_some read (λ r. FastEventOperands (event_by word) caller operands (event r) (rest r)) (λ r. FastEvent v text (event r) (rest r))
+    of_some read (λ r. FastEventOperands v (event_by v word) caller operands (event r) (rest r)) (λ r. FastEvent v text (event r) (rest r))
     (λ r o. event_is v text behind (rest r) caller (event r) a (of_word v word caller behind operands (rest r) (event r) b o)) h

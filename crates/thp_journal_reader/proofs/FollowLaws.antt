@@ -9,7 +9,7 @@ use Rattle.thp_history.proofs.ListPlaces.{get_middle}
 use Rattle.thp_check.specs.declared.misfit.Misfit.{Misfit}
 use Rattle.thp_check.specs.Prelude.{Explains, Replayed, replayed_with}
 use Rattle.thp_script.specs.Prelude.{max_counted}
-use Rattle.thp_journal_reader.specs.Prelude.{FollowedNodes, Follower, Illegal, ReadNode, Line, IsLegalNode, ReportsFirst, first_illegal, has_stopped, nodes_read, AreKept, EndsAt, FollowerKnows, FollowsBy, FollowsLines, HasEnded, HasNone, FollowerHasRoom, HasRoomIn, IsStored, LastIsIllegal, StopsWith, IsLineInRange, began, on_last, with_event, with_line, IsNodeBefore}
+use Rattle.thp_journal_reader.specs.Prelude.{FollowedNodes, Follower, Illegal, ReadNode, Line, IsLegalNode, ReportsFirst, first_illegal, has_stopped, nodes_read, AreKept, EndsAt, FollowerKnows, FollowsBy, FollowsLines, HasEnded, HasNone, FollowerHasRoom, HasRoomIn, IsStored, LastIsIllegal, StopsWith, HasShapeWithin, began, on_last, with_event, with_line, IsNodeBefore}
 use Rattle.thp_journal_reader.proofs.AnswerLaws.{found_has, legal_more, legal_none, misfit_inside, misfit_is_illegal}
 use Rattle.thp_journal_reader.proofs.CheckLaws.{first_grows, first_none, first_stays, first_stops, front_stays, grown, illegal_grows, illegal_push, illegal_stays, last_misfit, misfit_stays, no_events_legal, reported_none, reported_push}
 use Rattle.thp_journal_reader.proofs.NodeLaws.{each_step}
@@ -175,12 +175,12 @@ module _ {K : Type 0} (keeps : Shape → History → Option Illegal → K → Ty
     follows_none nodes new none first known = grind arith
 
     -- there is room for one more event of a node whose next line has a number that is counted
-    room_by : (number : ℕ) (nodes : List ReadNode) (o : Option F) (next_line : ℕ) (illegal : Option Illegal) (kept : List K) → FollowsBy replayed keeps follows_all nodes o next_line illegal kept → All (IsNodeBefore number) nodes → number ≤ max_counted →
+    room_by : (number : ℕ) (nodes : List ReadNode) (o : Option F) (next_line : ℕ) (illegal : Option Illegal) (kept : List K) → FollowsBy replayed keeps follows_all nodes o next_line illegal kept → All (IsNodeBefore 16777216 number) nodes → number ≤ max_counted →
         IfSome o (λ node. HasRoomIn next_line (replayed node))
     room_by number nodes None next_line illegal kept known each below = tt
     room_by number nodes (Some node) next_line illegal kept e each below =
-        let P : List ReadNode → Type 0 = λ ns. All (IsNodeBefore number) ns in
-        let last : IsNodeBefore number e.last = found_has (λ n. IsNodeBefore number n) (e.before ++ e.last ∷ []) (length e.before) e.last (get_middle e.before e.last []) (subst P e.nodes_are each) in
+        let P : List ReadNode → Type 0 = λ ns. All (IsNodeBefore 16777216 number) ns in
+        let last : IsNodeBefore 16777216 number e.last = found_has (λ n. IsNodeBefore 16777216 number n) (e.before ++ e.last ∷ []) (length e.before) e.last (get_middle e.before e.last []) (subst P e.nodes_are each) in
         let lines : e.last.first_line + length e.last.events ≤ number = last.lines in
         let events : length (replayed node).history ≡ length e.last.events = ap (λ (r : Replayed). length r.history) e.replay_is in
         (omega (arith, e.next_is, events), omega (arith, e.next_is, lines))
@@ -195,9 +195,9 @@ module _ {K : Type 0} (keeps : Shape → History → Option Illegal → K → Ty
     goes_first nodes none no-node legal nothing = grind (arith, reported_none, All-nil, follows_none, first_none)
 
     -- behind one more line
-    pub goes_on : (number : ℕ) (old new : FollowedNodes F K) (line : Line) → FollowsLines replayed keeps follows_all number old → IsLineInRange line → new.lines ≡ old.lines ++ (number, line) ∷ [] →
+    pub goes_on : (number : ℕ) (old new : FollowedNodes F K) (line : Line) → FollowsLines replayed keeps follows_all number old → HasShapeWithin 16777216 line → new.lines ≡ old.lines ++ (number, line) ∷ [] →
         FollowerKnows replayed keeps follows_all (with_line number (nodes_read old.lines) line) new.follower → FollowsLines replayed keeps follows_all (number + 1) new
     goes_on number old new line along in-range lines follows =
         let reported : nodes_read new.lines ≡ with_line number (nodes_read old.lines) line = ap nodes_read lines ∙ reported_push old.lines number line in
         let P : List ReadNode → Type 0 = λ ns. FollowerKnows replayed keeps follows_all ns new.follower in
-        record { each = each_step number (nodes_read old.lines) (nodes_read new.lines) line reported in-range along.each; follows = subst P (sym reported) follows }
+        record { each = each_step 16777216 number (nodes_read old.lines) (nodes_read new.lines) line reported in-range along.each; follows = subst P (sym reported) follows }

@@ -4,7 +4,7 @@ use Rattle.thp_script.specs.declared.fault.TextKind.{TextKind}
 use Rattle.thp_script.specs.declared.fault.TextKind.TheVariants.{Cut}
 use Rattle.thp_script.specs.Prelude.{fault_after, ◌>>=◌, Fault, Text, lines_of}
 use Rattle.thp_script.proofs.PieceLaws.{has_first}
-use Rattle.thp_journal_reader.specs.Prelude.{Line, Place, Start, Inside, Ended, line_in, place_after, end_of_text, lines_from, fault_at}
+use Rattle.thp_journal_reader.specs.Prelude.{Line, Place, Start, Inside, Ended, UpToVersion3, line_in, place_after, end_of_text, lines_from, fault_at}
 
 abbrev pub Read : Type 0
 Read = Result (List Line) Fault
@@ -30,16 +30,16 @@ line_ends n place texts text e = rw e refl
 -- ---- the end of the text
 
 pub ends_none : (n : ℕ) (place : Place) (o : Option TextKind) → None ≡ fault_at o place → end_of_text n place o ≡ Ok []
-ends_none n (Ended version) None e = refl
-ends_none n Start None e = absurd cc
-ends_none n (Inside version nodes) None e = absurd cc
+ends_none n (Ended accepted version) None e = refl
+ends_none n (Start accepted) None e = absurd cc
+ends_none n (Inside accepted version nodes) None e = absurd cc
 ends_none n place (Some kind) e = absurd cc
 
-kind_of : (n : ℕ) (first second : TextKind) → Some first ≡ Some second → end_of_text n Start (Some second) ≡ Err (n, first)
+kind_of : (n : ℕ) (first second : TextKind) → Some first ≡ Some second → end_of_text n (Start UpToVersion3) (Some second) ≡ Err (n, first)
 kind_of n first second e = cc
 
 pub ends_some : (n : ℕ) (place : Place) (o : Option TextKind) (kind : TextKind) → Some kind ≡ fault_at o place → end_of_text n place o ≡ Err (n, kind)
-ends_some n (Ended version) None kind e = absurd cc
-ends_some n Start None kind e = kind_of n kind Cut e
-ends_some n (Inside version nodes) None kind e = kind_of n kind Cut e
+ends_some n (Ended accepted version) None kind e = absurd cc
+ends_some n (Start accepted) None kind e = kind_of n kind Cut e
+ends_some n (Inside accepted version nodes) None kind e = kind_of n kind Cut e
 ends_some n place (Some other) kind e = kind_of n kind other e

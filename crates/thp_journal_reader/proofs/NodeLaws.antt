@@ -1,14 +1,15 @@
 -- The nodes of a journal, as one more line is read.
-use Rattle.std.proofs.Common.{◌≡◌, ◌⊎◌, ℕ, suc, ◌+◌, ◌≤◌, List, [], ◌∷◌, ◌++◌, length, length-append, Result, refl, sym, ap, ◌∙◌, arith, inl, inr, All, IfOk, IfErr}
+use Rattle.std.proofs.Common.{◌≡◌, true, eq-eqb, ◌⊎◌, ℕ, suc, ◌+◌, ◌≤◌, List, [], ◌∷◌, ◌++◌, length, length-append, Result, refl, sym, ap, ◌∙◌, arith, inl, inr, All, IfOk, IfErr}
 use Rattle.std.proofs.lemmas.List.Elements.{All-cons, All-nil, All-push, All-tail}
 use Rattle.std.proofs.lemmas.List.Sums.{fold_push}
 use Rattle.thp_history.specs.declared.events.Event.{Event}
 use Rattle.thp_history.specs.declared.shape.Shape.{Shape}
 use Rattle.thp_history.specs.Prelude.{event_with, least_free, with_least_blocks, History}
+use Rattle.thp_journal_writer.specs.Prelude.{includes, version_limits}
 use Rattle.thp_script.specs.declared.fault.ReadFault.{ReadFault}
 use Rattle.thp_script.specs.declared.fault.ReadFault.TheVariants.{OutOfMemory}
 use Rattle.thp_script.specs.Prelude.{Fault, ReportsFault}
-use Rattle.thp_journal_reader.specs.Prelude.{ReadJournals, ReadNode, Line, Head, Node, Happened, End, node_events, node_journal, nodes_of, IsNodeJournal, IsLineInRange, began, on_last, with_event, with_line, IsNodeBefore}
+use Rattle.thp_journal_reader.specs.Prelude.{ReadJournals, ReadNode, Line, Head, Node, Happened, End, node_events, node_journal, nodes_of, IsNodeJournal, HasShapeWithin, IsLineInRange, Place, Version, Underused, may_have_version, version_at, began, on_last, with_event, with_line, IsNodeBefore}
 
 -- ---- the events of a node
 
@@ -121,44 +122,44 @@ last_grows f closed last grown nodes is are = rw (is, are) (sym (on_last-push f 
 
 -- ---- what is known of the nodes
 
-later : (number : ℕ) (node : ReadNode) → IsNodeBefore number node → IsNodeBefore (number + 1) node
-later number node h = let before : node.first_line + length node.events ≤ number = h.lines in record { shape = h.shape; lines = omega arith }
+later : (most : ℕ) (number : ℕ) (node : ReadNode) → IsNodeBefore most number node → IsNodeBefore most (number + 1) node
+later most number node h = let before : node.first_line + length node.events ≤ number = h.lines in record { shape = h.shape; lines = omega arith }
 
-all_later : (number : ℕ) (nodes : List ReadNode) → All (IsNodeBefore number) nodes → All (IsNodeBefore (number + 1)) nodes
-all_later number [] all = All-nil (IsNodeBefore (number + 1))
-all_later number (node ∷ nodes) all =
-    All-cons (IsNodeBefore (number + 1)) node nodes (later number node (all 0 node (omega arith))) (all_later number nodes (All-tail (IsNodeBefore number) node nodes all))
+all_later : (most : ℕ) (number : ℕ) (nodes : List ReadNode) → All (IsNodeBefore most number) nodes → All (IsNodeBefore most (number + 1)) nodes
+all_later most number [] all = All-nil (IsNodeBefore most (number + 1))
+all_later most number (node ∷ nodes) all =
+    All-cons (IsNodeBefore most (number + 1)) node nodes (later most number node (all 0 node (omega arith))) (all_later most number nodes (All-tail (IsNodeBefore most number) node nodes all))
 
-one_event_more : (number : ℕ) (event : Event) (node : ReadNode) → IsNodeBefore number node → IsNodeBefore (number + 1) (with_event event node)
-one_event_more number event node h = grind (arith, first_line, length-append)
+one_event_more : (most : ℕ) (number : ℕ) (event : Event) (node : ReadNode) → IsNodeBefore most number node → IsNodeBefore most (number + 1) (with_event event node)
+one_event_more most number event node h = grind (arith, first_line, length-append)
 
-last_later : (number : ℕ) (event : Event) (nodes : List ReadNode) → All (IsNodeBefore number) nodes → All (IsNodeBefore (number + 1)) (on_last (with_event event) nodes)
-last_later number event [] all = All-nil (IsNodeBefore (number + 1))
-last_later number event (node ∷ []) all =
-    All-cons (IsNodeBefore (number + 1)) (with_event event node) [] (one_event_more number event node (all 0 node (omega arith))) (All-nil (IsNodeBefore (number + 1)))
-last_later number event (node ∷ next ∷ nodes) all =
-    All-cons (IsNodeBefore (number + 1)) node (on_last (with_event event) (next ∷ nodes)) (later number node (all 0 node (omega arith)))
-    (last_later number event (next ∷ nodes) (All-tail (IsNodeBefore number) node (next ∷ nodes) all))
+last_later : (most : ℕ) (number : ℕ) (event : Event) (nodes : List ReadNode) → All (IsNodeBefore most number) nodes → All (IsNodeBefore most (number + 1)) (on_last (with_event event) nodes)
+last_later most number event [] all = All-nil (IsNodeBefore most (number + 1))
+last_later most number event (node ∷ []) all =
+    All-cons (IsNodeBefore most (number + 1)) (with_event event node) [] (one_event_more most number event node (all 0 node (omega arith))) (All-nil (IsNodeBefore most (number + 1)))
+last_later most number event (node ∷ next ∷ nodes) all =
+    All-cons (IsNodeBefore most (number + 1)) node (on_last (with_event event) (next ∷ nodes)) (later most number node (all 0 node (omega arith)))
+    (last_later most number event (next ∷ nodes) (All-tail (IsNodeBefore most number) node (next ∷ nodes) all))
 
-each_with_line : (number : ℕ) (nodes : List ReadNode) (line : Line) → IsLineInRange line → All (IsNodeBefore number) nodes → All (IsNodeBefore (number + 1)) (with_line number nodes line)
-each_with_line number nodes (Head version) in-range all = all_later number nodes all
-each_with_line number nodes End in-range all = all_later number nodes all
-each_with_line number nodes (Happened event) in-range all = last_later number event nodes all
-each_with_line number nodes (Node n shape) in-range all =
+each_with_line : (most : ℕ) (number : ℕ) (nodes : List ReadNode) (line : Line) → HasShapeWithin most line → All (IsNodeBefore most number) nodes → All (IsNodeBefore most (number + 1)) (with_line number nodes line)
+each_with_line most number nodes (Head version) in-range all = all_later most number nodes all
+each_with_line most number nodes End in-range all = all_later most number nodes all
+each_with_line most number nodes (Happened event) in-range all = last_later most number event nodes all
+each_with_line most number nodes (Node n shape) in-range all =
     let here : number + 1 + 0 ≤ number + 1 = omega arith in
-    All-push (IsNodeBefore (number + 1)) nodes (began (number + 1) shape) (all_later number nodes all) (record { shape = in-range.1; lines = here })
+    All-push (IsNodeBefore most (number + 1)) nodes (began (number + 1) shape) (all_later most number nodes all) (record { shape = in-range; lines = here })
 
-pub each_step : (number : ℕ) (old new : List ReadNode) (line : Line) → new ≡ with_line number old line → IsLineInRange line → All (IsNodeBefore number) old → All (IsNodeBefore (number + 1)) new
-each_step number old new line is in-range all = rw is (each_with_line number old line in-range all)
+pub each_step : (most : ℕ) (number : ℕ) (old new : List ReadNode) (line : Line) → new ≡ with_line number old line → HasShapeWithin most line → All (IsNodeBefore most number) old → All (IsNodeBefore most (number + 1)) new
+each_step most number old new line is in-range all = rw is (each_with_line most number old line in-range all)
 
-in_range : (number : ℕ) (node : ReadNode) → number ≤ 16777217 → IsNodeBefore number node → IsNodeJournal node
+in_range : (number : ℕ) (node : ReadNode) → number ≤ 16777217 → IsNodeBefore 4096 number node → IsNodeJournal node
 in_range number node le h = let before : node.first_line + length node.events ≤ number = h.lines in record { shape = h.shape; lines = omega arith }
 
 -- at the end of the text each node has lines that there may be
-pub all_in_range : (number : ℕ) (nodes : List ReadNode) → number ≤ 16777217 → All (IsNodeBefore number) nodes → All IsNodeJournal nodes
+pub all_in_range : (number : ℕ) (nodes : List ReadNode) → number ≤ 16777217 → All (IsNodeBefore 4096 number) nodes → All IsNodeJournal nodes
 all_in_range number [] le all = All-nil IsNodeJournal
 all_in_range number (node ∷ nodes) le all =
-    All-cons IsNodeJournal node nodes (in_range number node le (all 0 node (omega arith))) (all_in_range number nodes le (All-tail (IsNodeBefore number) node nodes all))
+    All-cons IsNodeJournal node nodes (in_range number node le (all 0 node (omega arith))) (all_in_range number nodes le (All-tail (IsNodeBefore 4096 number) node nodes all))
 
 -- ---- answers that may be a refusal of memory
 
@@ -167,3 +168,32 @@ if_ok x y z h f = grind arith
 
 pub reports_memory : {A : Type 0} (r : Result A ReadFault) (read : Result ReadJournals Fault) → IfErr r (λ fault. fault ≡ OutOfMemory) → IfErr r (ReportsFault read)
 reports_memory x read h = grind arith
+
+-- ---- the versions of lines
+
+-- no version has more blocks than a node may have
+any_version : (v : Version) → (version_limits v).most_blocks ≤ 16777216
+any_version x = grind arith
+
+-- nor has one before version 4 more than 4,096
+earlier_version : (v : Version) → includes Underused v ≡ true → (version_limits v).most_blocks ≤ 4096
+earlier_version x is = grind arith
+
+-- a line of a version keeps to a greater limit
+within_more : (v : Version) (most : ℕ) (line : Line) → (version_limits v).most_blocks ≤ most → IsLineInRange v line → HasShapeWithin most line
+within_more v most (Node number shape) le in-range =
+    let few : shape.blocks ≤ (version_limits v).most_blocks = in-range.1.few_blocks in
+    record { some_blocks = in-range.1.some_blocks; few_blocks = omega arith; least_order = in-range.1.least_order; most_order = in-range.1.most_order; low_threshold = in-range.1.low_threshold }
+within_more v most _ le in-range = tt
+
+-- a line of any version
+pub within_any : (v : Version) (line : Line) → IsLineInRange v line → HasShapeWithin 16777216 line
+within_any v line in-range = within_more v 16777216 line (any_version v) in-range
+
+-- a line of version 1 to 3
+pub within_earlier : (v : Version) (line : Line) → includes Underused v ≡ true → IsLineInRange v line → HasShapeWithin 4096 line
+within_earlier v line is in-range = within_more v 4096 line (earlier_version v is) in-range
+
+-- the text can be of the version that its lines have
+pub version_now : (place : Place) → may_have_version place (version_at place) ≡ true
+version_now x = grind (arith, eq-eqb)

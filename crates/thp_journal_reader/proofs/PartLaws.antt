@@ -4,7 +4,7 @@ use Rattle.thp_history.specs.declared.events.Event.{Event}
 use Rattle.thp_script.specs.declared.fault.TextKind.{TextKind}
 use Rattle.thp_script.specs.Prelude.{fault_after, ◌>>=◌, Fault, nothing_of, Text, lines_of}
 use Rattle.thp_script.proofs.TextLaws.{first_line, whole_comes}
-use Rattle.thp_journal_reader.specs.Prelude.{ReadNode, Line, Happened, Place, Start, Inside, Version, FastEvent, line_in, place_after, journals_with, journals_within, lines_from, nodes_of, journals_in, result_of_lines, result_with, with_lines, fault_at, with_line}
+use Rattle.thp_journal_reader.specs.Prelude.{ReadNode, Line, Happened, Place, Start, Inside, Accepted, Version, FastEvent, line_in, place_after, journals_with, journals_accepted, lines_from, nodes_of, journals_in, result_of_lines, result_with, with_lines, fault_at, with_line}
 use Rattle.thp_journal_reader.proofs.JournalLaws.{behind, ends_none, ends_some, line_ends, line_fails, line_says}
 use Rattle.thp_journal_reader.proofs.NodeLaws.{nodes_of-push}
 
@@ -26,9 +26,9 @@ unfolding journals_with
 all_report x = grind (arith, from_none)
 
 -- nothing has come: the text to come is the whole
-pub reports_all : (most : ℕ) (text : Text) → result_with (record { nodes = []; place = Start; text = nothing_of most }) text ≡ journals_within most text
-unfolding journals_within result_of_lines
-reports_all most text = rw (all_report (lines_from 1 Start (lines_of text))) (whole_comes most text (lines_from 1 Start (lines_of text) >>= λ lines. Ok (journals_with lines)))
+pub reports_all : (v : Accepted) (most : ℕ) (text : Text) → result_with (record { nodes = []; place = Start v; text = nothing_of most }) text ≡ journals_accepted v most text
+unfolding journals_accepted result_of_lines
+reports_all v most text = rw (all_report (lines_from 1 (Start v) (lines_of text))) (whole_comes most text (lines_from 1 (Start v) (lines_of text) >>= λ lines. Ok (journals_with lines)))
 
 -- a line before those behind it
 after_reports : (n : ℕ) (nodes : List ReadNode) (line : Line) (read : Result (List Line) Fault)
@@ -43,14 +43,14 @@ line_reports nodes place n text bytes after line texts says =
     rw (line_says n place (lines_of text) bytes after line texts says) (after_reports n nodes line (lines_from (n + 1) (place_after place line) (lines_of after)))
 
 -- an event read ahead, behind the line of a node
-event_says : (v : Version) (reported : ℕ) (text after : Text) (event : Event) (a : FastEvent v text event after) → 0 < reported → Ok (Happened event) ≡ line_in (Inside v reported) a.line
+event_says : (accepted : Accepted) (v : Version) (reported : ℕ) (text after : Text) (event : Event) (a : FastEvent v text event after) → 0 < reported → Ok (Happened event) ≡ line_in (Inside accepted v reported) a.line
 unfolding line_in
-event_says v reported text after event a some = rw (← a.says, lt-ltb 0 reported some) refl
+event_says accepted v reported text after event a some = rw (← a.says, lt-ltb 0 reported some) refl
 
-pub event_reports : (nodes : List ReadNode) (v : Version) (reported n : ℕ) (begun rest more after : Text) (event : Event) → FastEvent v rest event after → 0 < reported → begun ≡ []
-    → result_of_lines nodes (Inside v reported) n (begun ++ (rest ++ more)) ≡ result_of_lines (with_line n nodes (Happened event)) (Inside v reported) (n + 1) (after ++ more)
-event_reports nodes v reported n begun rest more after event a some begins =
-    line_reports nodes (Inside v reported) n (begun ++ (rest ++ more)) a.line (after ++ more) (Happened event) (rw begins (first_line rest more a.line after a.lines)) (event_says v reported rest after event a some)
+pub event_reports : (nodes : List ReadNode) (accepted : Accepted) (v : Version) (reported n : ℕ) (begun rest more after : Text) (event : Event) → FastEvent v rest event after → 0 < reported → begun ≡ []
+    → result_of_lines nodes (Inside accepted v reported) n (begun ++ (rest ++ more)) ≡ result_of_lines (with_line n nodes (Happened event)) (Inside accepted v reported) (n + 1) (after ++ more)
+event_reports nodes accepted v reported n begun rest more after event a some begins =
+    line_reports nodes (Inside accepted v reported) n (begun ++ (rest ++ more)) a.line (after ++ more) (Happened event) (rw begins (first_line rest more a.line after a.lines)) (event_says accepted v reported rest after event a some)
 
 -- a line that is at fault
 pub line_is_wrong : (nodes : List ReadNode) (place : Place) (n : ℕ) (text bytes after : Text) (kind : TextKind) → lines_of text ≡ bytes ∷ lines_of after → Err kind ≡ line_in place bytes

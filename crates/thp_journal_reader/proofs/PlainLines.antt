@@ -9,7 +9,8 @@ use Rattle.thp_script.specs.declared.fault.TextKind.TheVariants.{BadByte, BadWor
 use Rattle.thp_script.specs.Prelude.{number_up_to, one_word, two_words, fault_of_line, is_empty, is_printable, Text, words_in_line}
 use Rattle.thp_script.proofs.LineLaws.{IsPlain, bind_ok, none_empty, ok_value, one_plain, pieces_printable, plain_word, word_cases}
 use Rattle.thp_history.specs.declared.page_call.Loss.{Loss}
-use Rattle.thp_journal_reader.specs.Prelude.{EventWord, OfPage, OfRange, OfLoss, UnmapSub, Split, Close, PageWord, RangeWord, Line, Version, Plain, Orders, Underused, caller_number, close_event, event_by, event_of, loss_event, loss_words, no_words, outcome_and_word, page_event, page_number, range_event, range_loss_words, range_number, split_event, three_words, unmap_event, event_word, outcome_of, before, line_by_words, end_line, parsed_event_line, head_of, line_by, line_of, node_of, node_with, number_between, ordered_node, plain_node, node_threshold_of, underused_node, parsed_version, set_of_text}
+use Rattle.thp_journal_reader.specs.Prelude.{EventWord, OfPage, OfRange, OfLoss, UnmapSub, Split, Close, PageWord, RangeWord, Line, Version, Plain, Orders, Underused, Large, caller_number, close_event, event_by, event_of, loss_event, loss_words, no_words, outcome_and_word, page_event, page_number, range_event, range_loss_words, range_number, split_event, three_words, unmap_event, event_word, outcome_of, before, line_by_words, end_line, parsed_event_line, head_of, line_by, line_of, node_of, node_with, number_between, ordered_node, plain_node, node_threshold_of, underused_node, parsed_version, set_of_text}
+use Rattle.thp_journal_writer.specs.Prelude.{version_limits}
 use Rattle.thp_journal_reader.proofs.PlainWords.{event_word_plain, number_plain, one_or, outcome_plain, set_plain}
 
 -- ---- so many words
@@ -77,66 +78,66 @@ range_loss_plain (a ∷ b ∷ d ∷ words) w e p q r s =
 abbrev ArePlain : Text → List Text → Type 0
 ArePlain caller words = IsPlain caller × All IsPlain words
 
-module _ (caller : Text) (words : List Text) (event : Event) where
-  page_event_plain : (name : PageWord) → page_event name caller words ≡ Ok event → ArePlain caller words
+module _ (v : Version) (caller : Text) (words : List Text) (event : Event) where
+  page_event_plain : (name : PageWord) → page_event v name caller words ≡ Ok event → ArePlain caller words
   unfolding page_event
   page_event_plain name e =
       let w = bind_ok (one_word words) _ event e in
-      let c = bind_ok (caller_number caller) _ event w.2 in
+      let c = bind_ok (caller_number v caller) _ event w.2 in
       let p = bind_ok (page_number w.0) _ event c.2 in
-      (number_plain 63 c.0 caller c.1, one_word_plain words w.0 w.1 (number_plain 18446744073709551615 p.0 w.0 p.1))
+      (number_plain (version_limits v).last_caller c.0 caller c.1, one_word_plain words w.0 w.1 (number_plain 18446744073709551615 p.0 w.0 p.1))
 
-  range_event_plain : (name : RangeWord) → range_event name caller words ≡ Ok event → ArePlain caller words
+  range_event_plain : (name : RangeWord) → range_event v name caller words ≡ Ok event → ArePlain caller words
   unfolding range_event
   range_event_plain name e =
       let w = bind_ok (three_words words) _ event e in
-      let c = bind_ok (caller_number caller) _ event w.2 in
+      let c = bind_ok (caller_number v caller) _ event w.2 in
       let p = bind_ok (page_number w.0.0) _ event c.2 in
       let f = bind_ok (range_number w.0.1) _ event p.2 in
       let n = bind_ok (range_number w.0.2) _ event f.2 in (
-        number_plain 63 c.0 caller c.1,
+        number_plain (version_limits v).last_caller c.0 caller c.1,
         three_words_plain words w.0 w.1 (number_plain 18446744073709551615 p.0 w.0.0 p.1) (number_plain 65535 f.0 w.0.1 f.1) (number_plain 65535 n.0 w.0.2 n.1),
       )
 
-  loss_event_plain : (name : Loss) → loss_event name caller words ≡ Ok event → ArePlain caller words
+  loss_event_plain : (name : Loss) → loss_event v name caller words ≡ Ok event → ArePlain caller words
   unfolding loss_event
   loss_event_plain name e =
       let w = bind_ok (loss_words words) _ event e in
-      let c = bind_ok (caller_number caller) _ event w.2 in
+      let c = bind_ok (caller_number v caller) _ event w.2 in
       let p = bind_ok (page_number w.0.0) _ event c.2 in
       let s = bind_ok (set_of_text w.0.2) _ event p.2 in
-      (number_plain 63 c.0 caller c.1, loss_words_plain words w.0 w.1 (number_plain 18446744073709551615 p.0 w.0.0 p.1) (set_plain w.0.2 s.0 s.1))
+      (number_plain (version_limits v).last_caller c.0 caller c.1, loss_words_plain words w.0 w.1 (number_plain 18446744073709551615 p.0 w.0.0 p.1) (set_plain w.0.2 s.0 s.1))
 
-  unmap_event_plain : unmap_event caller words ≡ Ok event → ArePlain caller words
+  unmap_event_plain : unmap_event v caller words ≡ Ok event → ArePlain caller words
   unfolding unmap_event
   unmap_event_plain e =
       let w = bind_ok (range_loss_words words) _ event e in
-      let c = bind_ok (caller_number caller) _ event w.2 in
+      let c = bind_ok (caller_number v caller) _ event w.2 in
       let p = bind_ok (page_number w.0.0) _ event c.2 in
       let f = bind_ok (range_number w.0.1) _ event p.2 in
       let n = bind_ok (range_number w.0.2) _ event f.2 in
       let s = bind_ok (set_of_text w.0.4) _ event n.2 in (
-        number_plain 63 c.0 caller c.1,
+        number_plain (version_limits v).last_caller c.0 caller c.1,
         range_loss_plain words w.0 w.1 (number_plain 18446744073709551615 p.0 w.0.0 p.1) (number_plain 65535 f.0 w.0.1 f.1) (number_plain 65535 n.0 w.0.2 n.1) (set_plain w.0.4 s.0 s.1),
       )
 
-  split_event_plain : split_event caller words ≡ Ok event → ArePlain caller words
+  split_event_plain : split_event v caller words ≡ Ok event → ArePlain caller words
   unfolding split_event
   split_event_plain e =
       let w = bind_ok (two_words words) _ event e in
-      let c = bind_ok (caller_number caller) _ event w.2 in
+      let c = bind_ok (caller_number v caller) _ event w.2 in
       let p = bind_ok (page_number w.0.0) _ event c.2 in
       let s = bind_ok (set_of_text w.0.1) _ event p.2 in
-      (number_plain 63 c.0 caller c.1, two_words_plain words w.0 w.1 (number_plain 18446744073709551615 p.0 w.0.0 p.1) (set_plain w.0.1 s.0 s.1))
+      (number_plain (version_limits v).last_caller c.0 caller c.1, two_words_plain words w.0 w.1 (number_plain 18446744073709551615 p.0 w.0.0 p.1) (set_plain w.0.1 s.0 s.1))
 
-  close_event_plain : close_event caller words ≡ Ok event → ArePlain caller words
+  close_event_plain : close_event v caller words ≡ Ok event → ArePlain caller words
   unfolding close_event
   close_event_plain e =
       let w = bind_ok (no_words words) _ event e in
-      let c = bind_ok (caller_number caller) _ event w.2 in
-      (number_plain 63 c.0 caller c.1, no_words_plain words w.0 w.1)
+      let c = bind_ok (caller_number v caller) _ event w.2 in
+      (number_plain (version_limits v).last_caller c.0 caller c.1, no_words_plain words w.0 w.1)
 
-  event_by_plain : (word : EventWord) → event_by word caller words ≡ Ok event → ArePlain caller words
+  event_by_plain : (word : EventWord) → event_by v word caller words ≡ Ok event → ArePlain caller words
   event_by_plain (OfPage name) e = page_event_plain name e
   event_by_plain (OfRange name) e = range_event_plain name e
   event_by_plain (OfLoss name) e = loss_event_plain name e
@@ -148,7 +149,7 @@ event_plain : (v : Version) (caller : Text) (words : List Text) (event : Event) 
 event_plain v caller [] event e = absurd cc
 event_plain v caller (name ∷ words) event e =
     let word = bind_ok (event_word v name) _ event e in
-    let p = event_by_plain caller words event word.0 word.2 in
+    let p = event_by_plain v caller words event word.0 word.2 in
     All-cons IsPlain caller (name ∷ words) p.0 (All-cons IsPlain name words (event_word_plain v name word.0 word.1) p.1)
 
 -- ---- nodes
@@ -159,7 +160,8 @@ version_plain word v e =
     one_or word (codes "1") _ _ v e refl refl
     (λ e1. one_or word (codes "2") _ _ v e1 refl refl
     (λ e2. one_or word (codes "3") _ _ v e2 refl refl
-    (λ e3. absurd cc)))
+    (λ e3. one_or word (codes "4") _ _ v e3 refl refl
+    (λ e4. absurd cc))))
 
 head_plain : (words : List Text) (line : Line) → head_of words ≡ Ok line → All IsPlain words
 unfolding head_of
@@ -191,39 +193,44 @@ threshold_plain order word t e =
     let n = bind_ok (number_up_to (2 ^ order - 1) word) _ t f in
     number_plain (2 ^ order - 1) n.0 word n.1)
 
-node_with_plain : (number blocks : Text) (order : ℕ) (underused : Option ℕ) (line : Line) → node_with number blocks order underused ≡ Ok line → IsPlain number × IsPlain blocks
-node_with_plain number blocks order underused line e =
-    let n = bind_ok (number_up_to 7 number) _ line e in
-    let b = bind_ok (number_between 1 4096 blocks) _ line n.2 in
-    (number_plain 7 n.0 number n.1, between_plain 1 4096 b.0 blocks b.1)
+node_with_plain : (v : Version) (number blocks : Text) (order : ℕ) (underused : Option ℕ) (line : Line) → node_with v number blocks order underused ≡ Ok line → IsPlain number × IsPlain blocks
+node_with_plain v number blocks order underused line e =
+    let n = bind_ok (number_up_to (version_limits v).last_node number) _ line e in
+    let b = bind_ok (number_between 1 (version_limits v).most_blocks blocks) _ line n.2 in
+    (number_plain (version_limits v).last_node n.0 number n.1, between_plain 1 (version_limits v).most_blocks b.0 blocks b.1)
 
-node_plain : (v : Version) (words : List Text) (line : Line) → node_of v words ≡ Ok line → All IsPlain words
-unfolding plain_node ordered_node underused_node
-node_plain Plain words line e =
-    let number = bind_ok (before (codes "blocks") words) _ line e in
-    let blocks = bind_ok (one_word number.0.1) _ line number.2 in
-    let p = node_with_plain number.0.0 blocks.0 9 None line blocks.2 in
-    before_plain (codes "blocks") words number.0 number.1 (record { printable = refl; some = refl }) p.0 (one_word_plain number.0.1 blocks.0 blocks.1 p.1)
-node_plain Orders words line e =
-    let number = bind_ok (before (codes "blocks") words) _ line e in
-    let blocks = bind_ok (before (codes "order") number.0.1) _ line number.2 in
-    let order_word = bind_ok (one_word blocks.0.1) _ line blocks.2 in
-    let order = bind_ok (number_between 2 9 order_word.0) _ line order_word.2 in
-    let p = node_with_plain number.0.0 blocks.0.0 order.0 None line order.2 in
-    before_plain (codes "blocks") words number.0 number.1 (record { printable = refl; some = refl }) p.0
-    (before_plain (codes "order") number.0.1 blocks.0 blocks.1 (record { printable = refl; some = refl }) p.1 (one_word_plain blocks.0.1 order_word.0 order_word.1 (between_plain 2 9 order.0 order_word.0 order.1)))
-node_plain Underused words line e =
+threshold_node_plain : (v : Version) (words : List Text) (line : Line) → underused_node v words ≡ Ok line → All IsPlain words
+unfolding underused_node
+threshold_node_plain v words line e =
     let number = bind_ok (before (codes "blocks") words) _ line e in
     let blocks = bind_ok (before (codes "order") number.0.1) _ line number.2 in
     let order_word = bind_ok (before (codes "underused") blocks.0.1) _ line blocks.2 in
     let threshold_word = bind_ok (one_word order_word.0.1) _ line order_word.2 in
     let order = bind_ok (number_between 2 9 order_word.0.0) _ line threshold_word.2 in
     let threshold = bind_ok (node_threshold_of order.0 threshold_word.0) _ line order.2 in
-    let p = node_with_plain number.0.0 blocks.0.0 order.0 threshold.0 line threshold.2 in
+    let p = node_with_plain v number.0.0 blocks.0.0 order.0 threshold.0 line threshold.2 in
     before_plain (codes "blocks") words number.0 number.1 (record { printable = refl; some = refl }) p.0
     (before_plain (codes "order") number.0.1 blocks.0 blocks.1 (record { printable = refl; some = refl }) p.1
     (before_plain (codes "underused") blocks.0.1 order_word.0 order_word.1 (record { printable = refl; some = refl }) (between_plain 2 9 order.0 order_word.0.0 order.1)
     (one_word_plain order_word.0.1 threshold_word.0 threshold_word.1 (threshold_plain order.0 threshold_word.0 threshold.0 threshold.1))))
+
+node_plain : (v : Version) (words : List Text) (line : Line) → node_of v words ≡ Ok line → All IsPlain words
+unfolding plain_node ordered_node
+node_plain Plain words line e =
+    let number = bind_ok (before (codes "blocks") words) _ line e in
+    let blocks = bind_ok (one_word number.0.1) _ line number.2 in
+    let p = node_with_plain Plain number.0.0 blocks.0 9 None line blocks.2 in
+    before_plain (codes "blocks") words number.0 number.1 (record { printable = refl; some = refl }) p.0 (one_word_plain number.0.1 blocks.0 blocks.1 p.1)
+node_plain Orders words line e =
+    let number = bind_ok (before (codes "blocks") words) _ line e in
+    let blocks = bind_ok (before (codes "order") number.0.1) _ line number.2 in
+    let order_word = bind_ok (one_word blocks.0.1) _ line blocks.2 in
+    let order = bind_ok (number_between 2 9 order_word.0) _ line order_word.2 in
+    let p = node_with_plain Orders number.0.0 blocks.0.0 order.0 None line order.2 in
+    before_plain (codes "blocks") words number.0 number.1 (record { printable = refl; some = refl }) p.0
+    (before_plain (codes "order") number.0.1 blocks.0 blocks.1 (record { printable = refl; some = refl }) p.1 (one_word_plain blocks.0.1 order_word.0 order_word.1 (between_plain 2 9 order.0 order_word.0 order.1)))
+node_plain Underused words line e = threshold_node_plain Underused words line e
+node_plain Large words line e = threshold_node_plain Large words line e
 
 -- ---- lines
 

@@ -1,10 +1,10 @@
 -- Events from the words of a line: the caller, the event word, then operands (this project's journal format).
-use Rattle.std.specs.Prelude.{ℕ, ◌-◌, List, [], ◌∷◌, Result, Ok, Err}
+use Rattle.std.specs.Prelude.{ℕ, List, [], ◌∷◌, Result, Ok, Err}
 use Rattle.thp_history.specs.declared.events.Event.{Event}
 use Rattle.thp_history.specs.declared.events.Outcome.{Outcome}
 use Rattle.thp_history.specs.declared.events.What.TheVariants as what
 use Rattle.thp_history.specs.declared.page_call.Loss.{Loss}
-use Rattle.thp_history.specs.Prelude.{by, loss_what, max_callers}
+use Rattle.thp_history.specs.Prelude.{by, loss_what}
 use Rattle.thp_script.specs.declared.fault.TextKind.{TextKind}
 use Rattle.thp_script.specs.declared.fault.TextKind.TheVariants.{BadWord, BadCount}
 use Rattle.thp_script.specs.Prelude.{number_up_to, one_word, two_words, ◌>>=◌, Text}
@@ -13,12 +13,13 @@ use Rattle.thp_journal_reader.specs.declared.event_line.EventWord.TheVariants.{O
 use Rattle.thp_journal_reader.specs.declared.event_line.PageWord.{PageWord}
 use Rattle.thp_journal_reader.specs.declared.event_line.RangeWord.{RangeWord}
 use Rattle.thp_journal_writer.specs.declared.version.Version.{Version}
+use Rattle.thp_journal_writer.specs.Prelude.{version_limits}
 use Rattle.thp_journal_reader.specs.EventWords.{event_word, outcome_of, page_what, range_what}
 use Rattle.thp_journal_reader.specs.SetTexts.{set_of_text}
 
--- a caller
-abbrev pub caller_number : Text → Result ℕ TextKind
-caller_number = number_up_to (max_callers - 1)
+-- a caller that a version allows
+abbrev pub caller_number : Version → Text → Result ℕ TextKind
+caller_number v = number_up_to (version_limits v).last_caller
 
 -- a page by its number
 abbrev pub page_number : Text → Result ℕ TextKind
@@ -61,37 +62,37 @@ range_loss_words (page ∷ first ∷ count ∷ words) = do
 range_loss_words _ = Err BadCount
 
 -- `CALLER WORD PAGE`
-unfoldable pub page_event : PageWord → Text → List Text → Result Event TextKind
-page_event name caller_word words = do
+unfoldable pub page_event : Version → PageWord → Text → List Text → Result Event TextKind
+page_event v name caller_word words = do
   word ← one_word words
-  caller ← caller_number caller_word
+  caller ← caller_number v caller_word
   page ← page_number word
   Ok (by caller (page_what name page))
 
 -- `CALLER WORD PAGE FIRST COUNT`
-unfoldable pub range_event : RangeWord → Text → List Text → Result Event TextKind
-range_event name caller_word words = do
+unfoldable pub range_event : Version → RangeWord → Text → List Text → Result Event TextKind
+range_event v name caller_word words = do
   word ← three_words words
-  caller ← caller_number caller_word
+  caller ← caller_number v caller_word
   page ← page_number word.0
   first ← range_number word.1
   count ← range_number word.2
   Ok (by caller (range_what name page first count))
 
 -- `CALLER WORD PAGE OUTCOME SET`
-unfoldable pub loss_event : Loss → Text → List Text → Result Event TextKind
-loss_event name caller_word words = do
+unfoldable pub loss_event : Version → Loss → Text → List Text → Result Event TextKind
+loss_event v name caller_word words = do
   word ← loss_words words
-  caller ← caller_number caller_word
+  caller ← caller_number v caller_word
   page ← page_number word.0
   released ← set_of_text word.2
   Ok (by caller (loss_what name page word.1 released))
 
 -- `CALLER unmapsub PAGE FIRST COUNT OUTCOME SET`
-unfoldable pub unmap_event : Text → List Text → Result Event TextKind
-unmap_event caller_word words = do
+unfoldable pub unmap_event : Version → Text → List Text → Result Event TextKind
+unmap_event v caller_word words = do
   word ← range_loss_words words
-  caller ← caller_number caller_word
+  caller ← caller_number v caller_word
   page ← page_number word.0
   first ← range_number word.1
   count ← range_number word.2
@@ -99,31 +100,31 @@ unmap_event caller_word words = do
   Ok (by caller (what.UnmapSub word.3 page first count released))
 
 -- `CALLER split PAGE SET`
-unfoldable pub split_event : Text → List Text → Result Event TextKind
-split_event caller_word words = do
+unfoldable pub split_event : Version → Text → List Text → Result Event TextKind
+split_event v caller_word words = do
   word ← two_words words
-  caller ← caller_number caller_word
+  caller ← caller_number v caller_word
   page ← page_number word.0
   released ← set_of_text word.1
   Ok (by caller (what.Split page released))
 
 -- `CALLER close`
-unfoldable pub close_event : Text → List Text → Result Event TextKind
-close_event caller_word words = do
+unfoldable pub close_event : Version → Text → List Text → Result Event TextKind
+close_event v caller_word words = do
   nothing ← no_words words
-  caller ← caller_number caller_word
+  caller ← caller_number v caller_word
   Ok (by caller what.Close)
 
 -- an event by its word, its caller and its operands
-abbrev pub event_by : EventWord → Text → List Text → Result Event TextKind
-event_by (OfPage name) caller words = page_event name caller words
-event_by (OfRange name) caller words = range_event name caller words
-event_by (OfLoss name) caller words = loss_event name caller words
-event_by UnmapSub caller words = unmap_event caller words
-event_by Split caller words = split_event caller words
-event_by Close caller words = close_event caller words
+abbrev pub event_by : Version → EventWord → Text → List Text → Result Event TextKind
+event_by v (OfPage name) caller words = page_event v name caller words
+event_by v (OfRange name) caller words = range_event v name caller words
+event_by v (OfLoss name) caller words = loss_event v name caller words
+event_by v UnmapSub caller words = unmap_event v caller words
+event_by v Split caller words = split_event v caller words
+event_by v Close caller words = close_event v caller words
 
 -- an event after its caller: its word is the first
 abbrev pub event_of : Version → Text → List Text → Result Event TextKind
 event_of v caller [] = Err BadWord
-event_of v caller (name ∷ words) = event_word v name >>= λ word. event_by word caller words
+event_of v caller (name ∷ words) = event_word v name >>= λ word. event_by v word caller words

@@ -15,7 +15,7 @@ use Rattle.thp_journal_reader.specs.declared.event_line.PageWord.TheVariants.{Al
 use Rattle.thp_journal_reader.specs.declared.event_line.RangeWord.{RangeWord}
 use Rattle.thp_journal_reader.specs.declared.event_line.RangeWord.TheVariants.{MapSub, Write, Zero}
 use Rattle.thp_journal_writer.specs.declared.version.Version.{Version}
-use Rattle.thp_journal_writer.specs.declared.version.Version.TheVariants.{Plain, Orders, Underused}
+use Rattle.thp_journal_writer.specs.declared.version.Version.TheVariants.{Plain, Orders, Underused, Large}
 
 -- the event words of each version
 unfoldable pub common_word : Text → Result EventWord TextKind
@@ -36,7 +36,7 @@ common_word name =
     else if bytes_eq name (codes "close") then Ok Close
     else Err BadWord
 
--- the further event words of version 3
+-- the further event words from version 3 on
 unfoldable pub later_word : Text → Result EventWord TextKind
 later_word name =
     if bytes_eq name (codes "write") then Ok (OfRange Write)
@@ -49,6 +49,7 @@ abbrev pub event_word : Version → Text → Result EventWord TextKind
 event_word Plain name = common_word name
 event_word Orders name = common_word name
 event_word Underused name = later_word name
+event_word Large name = later_word name
 
 -- the event about the page; a new page has block 0 here
 abbrev pub page_what : PageWord → ℕ → What

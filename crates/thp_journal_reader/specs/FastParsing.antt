@@ -42,10 +42,10 @@ pub record FastSet (set : List Bool) (text rest : Text) : Type 0 where
   pub reads : set_of_text word ≡ Ok set
 
 -- the text's first line has words that parse as this event after each word of its caller
-pub record FastEventOperands (reading : Text → List Text → Result Event TextKind) (caller : ℕ) (text : Text) (event : Event) (rest : Text) : Type 0 where
+pub record FastEventOperands (v : Version) (reading : Text → List Text → Result Event TextKind) (caller : ℕ) (text : Text) (event : Event) (rest : Text) : Type 0 where
   pub words : List Text
   pub line : FastJournalLine words text rest
-  pub reads : (w : Text) → caller_number w ≡ Ok caller → reading w words ≡ Ok event
+  pub reads : (w : Text) → caller_number v w ≡ Ok caller → reading w words ≡ Ok event
 
 -- the text's first line is this event, and `rest` follows it
 pub record FastEvent (v : Version) (text : Text) (event : Event) (rest : Text) : Type 0 where

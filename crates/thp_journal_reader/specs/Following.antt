@@ -3,7 +3,7 @@ use Rattle.std.specs.Prelude.{◌≡◌, ◌≤◌, ◌+◌, ◌⊎◌, ⊤, ℕ
 use Rattle.std.specs.List.{fold, AllZip}
 use Rattle.std.specs.Option.{option_or}
 use Rattle.thp_history.specs.declared.shape.Shape.{Shape}
-use Rattle.thp_history.specs.Prelude.{History, IsFirstMisfit}
+use Rattle.thp_history.specs.Prelude.{History, IsFirstMisfit, max_node_blocks}
 use Rattle.thp_check.specs.Prelude.{Replayed}
 use Rattle.thp_script.specs.Prelude.{max_counted}
 use Rattle.thp_journal_reader.specs.declared.follower.FollowedNodes.{FollowedNodes}
@@ -104,5 +104,5 @@ KnowsNodes replayed keeps follows_all nodes followed = FollowerKnows replayed ke
 
 -- what is known is right for the nodes in the lines, which are before the line of this number
 pub record FollowsLines {F K : Type 0} (replayed : F → Replayed) (keeps : Shape → History → Option Illegal → K → Type 0) (follows_all : Bool) (number : ℕ) (nodes : FollowedNodes F K) : Type 0 where
-  pub each : All (IsNodeBefore number) (nodes_read nodes.lines)
+  pub each : All (IsNodeBefore max_node_blocks number) (nodes_read nodes.lines)
   pub follows : FollowerKnows replayed keeps follows_all (nodes_read nodes.lines) nodes.follower

@@ -4,18 +4,20 @@ use Rattle.thp_history.specs.declared.shape.Shape.{Shape}
 use Rattle.thp_history.specs.Prelude.{with_least_blocks, History, IsShape}
 use Rattle.thp_script.specs.declared.fault.TextKind.{TextKind}
 use Rattle.thp_script.specs.declared.fault.TextKind.TheVariants.{TooLong, Cut}
-use Rattle.thp_script.specs.Prelude.{max_input, fault_after, ◌>>=◌, Fault, on_line, Text, lines_of}
+use Rattle.thp_script.specs.Prelude.{max_counted, max_input, fault_after, ◌>>=◌, Fault, on_line, Text, lines_of}
 use Rattle.thp_journal_reader.specs.declared.journals.ReadJournals.{ReadJournals}
 use Rattle.thp_journal_reader.specs.declared.journals.ReadNode.{ReadNode}
 use Rattle.thp_journal_reader.specs.declared.line.Line.{Line}
 use Rattle.thp_journal_reader.specs.declared.line.Line.TheVariants.{Node, Happened}
 use Rattle.thp_journal_reader.specs.declared.line.Place.{Place}
 use Rattle.thp_journal_reader.specs.declared.line.Place.TheVariants.{Start, Ended}
+use Rattle.thp_journal_reader.specs.declared.line.Accepted.{Accepted}
+use Rattle.thp_journal_reader.specs.declared.line.Accepted.TheVariants.{UpToVersion3, EveryVersion, ForScripts}
 use Rattle.thp_journal_reader.specs.JournalLines.{line_in, place_after}
 
 -- if nothing follows the last line, the journal has ended, or is cut there
 abbrev pub end_at : ℕ → Place → Result (List Line) Fault
-end_at number (Ended version) = Ok []
+end_at number (Ended accepted version) = Ok []
 end_at number _ = Err (number, Cut)
 
 abbrev pub end_of_text : ℕ → Place → Option TextKind → Result (List Line) Fault
@@ -52,17 +54,25 @@ nodes_of number (_ ∷ lines) = nodes_of (number + 1) lines
 unfoldable pub journals_with : List Line → ReadJournals
 journals_with lines = record { nodes = nodes_of 1 lines }
 
--- The journals in a text of at most so many bytes, or its first error.
-unfoldable pub journals_within : ℕ → Text → Result ReadJournals Fault
-journals_within most text =
+-- The journals in a text of at most so many bytes, as far as they are accepted, or its first error.
+unfoldable pub journals_accepted : Accepted → ℕ → Text → Result ReadJournals Fault
+journals_accepted accepted most text =
     if nat_lt most (length text) then Err (0, TooLong)
-    else (lines_from 1 Start (lines_of text) >>= λ lines. Ok (journals_with lines))
+    else (lines_from 1 (Start accepted) (lines_of text) >>= λ lines. Ok (journals_with lines))
 
--- The journals in an input, or its first error.
+-- The journals of any version in a text of at most so many bytes, or its first error.
+abbrev pub journals_within : ℕ → Text → Result ReadJournals Fault
+journals_within = journals_accepted EveryVersion
+
+-- The journals in an input, which are of version 1 to 3, or its first error.
 abbrev pub journals_of : Text → Result ReadJournals Fault
-journals_of = journals_within max_input
+journals_of = journals_accepted UpToVersion3 max_input
 
--- a node can have this shape, and its lines have numbers below 2^32
+-- The journals of any version and length whose nodes a script can have, or the first error of the text.
+abbrev pub journals_for_scripts : Text → Result ReadJournals Fault
+journals_for_scripts = journals_accepted ForScripts max_counted
+
+-- a node of version 1 to 3 can have this shape, and its lines have numbers below 2^32
 pub record IsNodeJournal (node : ReadNode) : Type 0 where
   pub shape : IsShape node.shape
   pub lines : node.first_line + length node.events ≤ max_input + 1

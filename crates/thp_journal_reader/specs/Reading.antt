@@ -2,7 +2,7 @@
 use Rattle.std.specs.Prelude.{◌≡◌, ◌≤◌, ◌+◌, ℕ, All, List, [], ◌∷◌, ◌++◌, length, Option, Some, None, IfSome}
 use Rattle.thp_history.specs.declared.events.Event.{Event}
 use Rattle.thp_history.specs.declared.shape.Shape.{Shape}
-use Rattle.thp_history.specs.Prelude.{event_with, least_free, IsShape}
+use Rattle.thp_history.specs.Prelude.{event_with, least_free, max_blocks, IsShapeWithin}
 use Rattle.thp_script.specs.declared.fault.TextKind.{TextKind}
 use Rattle.thp_script.specs.declared.fault.TextKind.TheVariants.{Cut}
 use Rattle.thp_journal_reader.specs.declared.journals.ReadNode.{ReadNode}
@@ -47,18 +47,18 @@ abbrev pub nodes_in : Option Nodes → List ReadNode
 nodes_in None = []
 nodes_in (Some nodes) = nodes.closed ++ nodes.last.journal ∷ []
 
--- a node of a valid shape, whose lines are before this one
-pub record IsNodeBefore (number : ℕ) (node : ReadNode) : Type 0 where
-  pub shape : IsShape node.shape
+-- a node of a valid shape with at most so many blocks, whose lines are before this one
+pub record IsNodeBefore (most : ℕ) (number : ℕ) (node : ReadNode) : Type 0 where
+  pub shape : IsShapeWithin most node.shape
   pub lines : node.first_line + length node.events ≤ number
 
 -- the blocks agree, and the nodes are before this line
 pub record IsReadingNodes (number : ℕ) (nodes : Option Nodes) : Type 0 where
   pub along : IfSome nodes (λ n. BlocksGoAlong n.last)
-  pub each : All (IsNodeBefore number) (nodes_in nodes)
+  pub each : All (IsNodeBefore max_blocks number) (nodes_in nodes)
 
 -- the text after the last line has an error; if there is none, the journal is cut unless it has ended
 abbrev pub fault_at : Option TextKind → Place → Option TextKind
 fault_at (Some kind) place = Some kind
-fault_at None (Ended version) = None
+fault_at None (Ended accepted version) = None
 fault_at None _ = Some Cut

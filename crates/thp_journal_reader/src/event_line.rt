@@ -4,7 +4,7 @@ ghost use Rattle.thp_script.specs.Prelude.{number_up_to};
 ghost use Rattle.thp_journal_reader.specs.Prelude.{caller_number, common_word, event_of, event_word, later_word, loss_event, outcome_and_word, outcome_of, page_number, page_what, range_event, range_number, range_what, split_event, unmap_event, FastWord};
 
 use crate::set_text::set_of_text;
-use thp_history::{Done, Event, Loss, MAX_CALLERS, Outcome, PageId, What};
+use thp_history::{Done, Event, Loss, Outcome, PageId, What};
 use thp_journal_writer::Version;
 use thp_script::{TextKind, Words, after_name, number, one_word};
 
@@ -17,10 +17,10 @@ pub(crate) fn small_number(most: u32, word: &[u8]) -> Result<u32, TextKind>
     Ok(value as u32)
 }
 
-fn caller_number(word: &[u8]) -> Result<u32, TextKind>
-    ensures { result ≡ caller_number word.now }
+fn caller_number(version: Version, word: &[u8]) -> Result<u32, TextKind>
+    ensures { result ≡ caller_number version word.now }
 {
-    small_number(MAX_CALLERS - 1, word)
+    small_number(version.limits().last_caller, word)
 }
 
 fn range_number(word: &[u8]) -> Result<u32, TextKind>
@@ -38,8 +38,13 @@ fn page_number(word: &[u8]) -> Result<PageId, TextKind>
 
 /// Parses `CALLER WORD PAGE FIRST COUNT`.
 #[tactic(auto, unfolding(crate::specs::EventLines::range_event))]
-fn range_event(name: RangeWord, caller: &[u8], mut words: Words) -> Result<Event, TextKind>
-    ensures { result ≡ range_event name caller.now words.entry }
+fn range_event(
+    version: Version,
+    name: RangeWord,
+    caller: &[u8],
+    mut words: Words,
+) -> Result<Event, TextKind>
+    ensures { result ≡ range_event version name caller.now words.entry }
 {
     let (Some(page), Some(first), Some(count), None) = (
         words.next(),
@@ -49,7 +54,7 @@ fn range_event(name: RangeWord, caller: &[u8], mut words: Words) -> Result<Event
     ) else {
         return Err(TextKind::BadCount);
     };
-    let caller = caller_number(caller)?;
+    let caller = caller_number(version, caller)?;
     let page = page_number(page)?;
     let first = range_number(first)?;
     let count = range_number(count)?;
@@ -74,14 +79,19 @@ fn outcome_and_word<'a>(mut words: Words<'a>) -> Result<(Outcome, &'a [u8]), Tex
 
 /// Parses `CALLER WORD PAGE OUTCOME SET`.
 #[tactic(auto, unfolding(crate::specs::EventLines::loss_event))]
-fn loss_event(name: Loss, caller: &[u8], mut words: Words) -> Result<Event, TextKind>
-    ensures { result ≡ loss_event name caller.now words.entry }
+fn loss_event(
+    version: Version,
+    name: Loss,
+    caller: &[u8],
+    mut words: Words,
+) -> Result<Event, TextKind>
+    ensures { result ≡ loss_event version name caller.now words.entry }
 {
     let Some(page) = words.next() else {
         return Err(TextKind::BadCount);
     };
     let (outcome, set) = outcome_and_word(words)?;
-    let caller = caller_number(caller)?;
+    let caller = caller_number(version, caller)?;
     let page = page_number(page)?;
     let released = set_of_text(set)?;
     Ok(Event {
@@ -92,14 +102,14 @@ fn loss_event(name: Loss, caller: &[u8], mut words: Words) -> Result<Event, Text
 
 /// Parses `CALLER unmapsub PAGE FIRST COUNT OUTCOME SET`.
 #[tactic(auto, unfolding(crate::specs::EventLines::unmap_event))]
-fn unmap_event(caller: &[u8], mut words: Words) -> Result<Event, TextKind>
-    ensures { result ≡ unmap_event caller.now words.entry }
+fn unmap_event(version: Version, caller: &[u8], mut words: Words) -> Result<Event, TextKind>
+    ensures { result ≡ unmap_event version caller.now words.entry }
 {
     let (Some(page), Some(first), Some(count)) = (words.next(), words.next(), words.next()) else {
         return Err(TextKind::BadCount);
     };
     let (outcome, set) = outcome_and_word(words)?;
-    let caller = caller_number(caller)?;
+    let caller = caller_number(version, caller)?;
     let page = page_number(page)?;
     let first = range_number(first)?;
     let count = range_number(count)?;
@@ -118,13 +128,13 @@ fn unmap_event(caller: &[u8], mut words: Words) -> Result<Event, TextKind>
 
 /// Parses `CALLER split PAGE SET`.
 #[tactic(auto, unfolding(crate::specs::EventLines::split_event))]
-fn split_event(caller: &[u8], mut words: Words) -> Result<Event, TextKind>
-    ensures { result ≡ split_event caller.now words.entry }
+fn split_event(version: Version, caller: &[u8], mut words: Words) -> Result<Event, TextKind>
+    ensures { result ≡ split_event version caller.now words.entry }
 {
     let (Some(page), Some(set), None) = (words.next(), words.next(), words.next()) else {
         return Err(TextKind::BadCount);
     };
-    let caller = caller_number(caller)?;
+    let caller = caller_number(version, caller)?;
     let page = page_number(page)?;
     let released = set_of_text(set)?;
     Ok(Event {
@@ -144,20 +154,20 @@ pub(crate) fn event_of(version: Version, caller: &[u8], mut words: Words) -> Res
     match event_word(version, name)? {
         EventWord::OfPage(name) => {
             let page = one_word(words)?;
-            let caller = caller_number(caller)?;
+            let caller = caller_number(version, caller)?;
             let page = page_number(page)?;
             let what = name.what(page);
             Ok(Event { caller, what })
         }
-        EventWord::OfRange(name) => range_event(name, caller, words),
-        EventWord::OfLoss(name) => loss_event(name, caller, words),
-        EventWord::UnmapSub => unmap_event(caller, words),
-        EventWord::Split => split_event(caller, words),
+        EventWord::OfRange(name) => range_event(version, name, caller, words),
+        EventWord::OfLoss(name) => loss_event(version, name, caller, words),
+        EventWord::UnmapSub => unmap_event(version, caller, words),
+        EventWord::Split => split_event(version, caller, words),
         EventWord::Close => {
             if words.next().is_some() {
                 return Err(TextKind::BadCount);
             }
-            let caller = caller_number(caller)?;
+            let caller = caller_number(version, caller)?;
             let what = What::Close;
             Ok(Event { caller, what })
         }
@@ -289,7 +299,7 @@ pub(crate) fn event_word(version: Version, name: &[u8]) -> Result<EventWord, Tex
 {
     match version {
         Version::Plain | Version::Orders => common_word(name),
-        Version::Underused => later_word(name),
+        Version::Underused | Version::Large => later_word(name),
     }
 }
 

@@ -1,8 +1,8 @@
 //! Follows the nodes of a journal as its lines are read: replays their events without storing them, and keeps data of each node.
-ghost use Rattle.std.specs.Prelude.{◌≡◌, ◌≤◌, ◌∷◌, ◌++◌, ℕ, [], List, None, IfOk, OnOk};
+ghost use Rattle.std.specs.Prelude.{◌≡◌, ⊤, ◌≤◌, ◌∷◌, ◌++◌, ℕ, [], List, None, IfOk, OnOk};
 ghost use Rattle.thp_check.specs.Prelude.{Replayed};
-ghost use Rattle.thp_journal_reader.specs.Prelude.{began, follows_later, has_stopped, illegal_so_far, nodes_read, on_last, with_event, with_line, FollowerKnows, FollowsLines, FollowsWith, HasEnded, FollowerHasRoom, HasRoomIn, IsLineInRange, KnowsNodes, ReadNode, StopsWith};
-ghost use Rattle.thp_history.specs.Prelude.{event_with, least_free, IsShape};
+ghost use Rattle.thp_journal_reader.specs.Prelude.{began, follows_later, has_stopped, illegal_so_far, nodes_read, on_last, with_event, with_line, FollowerKnows, FollowsLines, FollowsWith, HasEnded, FollowerHasRoom, HasRoomIn, HasShapeWithin, KnowsNodes, ReadNode, StopsWith};
+ghost use Rattle.thp_history.specs.Prelude.{event_with, least_free, max_node_blocks, IsNodeShape};
 ghost use Rattle.thp_history.specs.declared.events.Event.{Event};
 ghost use Rattle.thp_history.specs.declared.events.What.TheVariants.{Alloc};
 ghost use Rattle.thp_script.specs.Prelude.{max_counted};
@@ -50,7 +50,7 @@ impl<K: Drop, F: FollowsNode<Kept = K>> Follower<F, K> {
 
     /// Begins a node whose first event is on this line.
     fn begin(&mut self, first_line: u64, shape: Shape) -> Result<(), AllocError>
-        requires { IsShape shape }
+        requires { IsNodeShape shape }
         ensures { OnOk result ((nodes : List ReadNode) → FollowerKnows F.replayed F.keeps F.FOLLOWS_ALL nodes self.old → FollowerKnows F.replayed F.keeps F.FOLLOWS_ALL (nodes ++ began first_line shape ∷ []) self.new) }
     {
         self.end()?;
@@ -128,7 +128,7 @@ impl<K: Drop, F: FollowsNode<Kept = K>> Follower<F, K> {
     /// Processes the line of this number.
     fn follow(&mut self, number: u64, line: &Line) -> Result<(), AllocError>
         requires room { FollowerHasRoom F.replayed self.old }
-        requires in_range { IsLineInRange line.now }
+        requires in_range { HasShapeWithin max_node_blocks line.now }
         requires number { number ≤ max_counted }
         ensures { OnOk result ((nodes : List ReadNode) → FollowerKnows F.replayed F.keeps F.FOLLOWS_ALL nodes self.old → FollowerKnows F.replayed F.keeps F.FOLLOWS_ALL (with_line number nodes line.now) self.new) }
     {
@@ -189,6 +189,8 @@ impl<K: Drop, F: FollowsNode<Kept = K>> KeepsNodes for FollowedNodes<F, K> {
     ghost goes_along = { λ number nodes. FollowsLines F.replayed F.keeps F.FOLLOWS_ALL number nodes };
 
     ghost taken = { λ nodes. [] };
+
+    ghost allows = { λ v. ⊤ };
 
     ghost last_line = { max_counted };
 

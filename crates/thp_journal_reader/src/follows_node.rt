@@ -3,7 +3,7 @@ ghost use Rattle.std.specs.Prelude.{◌≡◌, ◌<◌, ◌+◌, ◌^◌, [], Bo
 ghost use Rattle.thp_check.specs.Prelude.{Explains, replayed_with, Replayed};
 ghost use Rattle.thp_journal_reader.specs.Keeping.{KeepsNothing, LeavesNothing};
 ghost use Rattle.thp_journal_reader.specs.declared.long_check.Illegal.{Illegal};
-ghost use Rattle.thp_history.specs.Prelude.{least_free, History, Fits, IsShape};
+ghost use Rattle.thp_history.specs.Prelude.{least_free, History, Fits, IsNodeShape};
 ghost use Rattle.thp_history.specs.declared.shape.Shape.{Shape};
 
 use crate::long_check::Illegal;
@@ -45,7 +45,7 @@ pub trait FollowsNode: Drop {
 
     /// Begins a node without events.
     fn begin(alloc: Global, shape: Shape) -> Result<Self, AllocError>
-        requires { IsShape shape }
+        requires { IsNodeShape shape }
         ensures shape { IfOk result (λ node. (replayed node).shape ≡ shape) }
         ensures none { IfOk result (λ node. (replayed node).history ≡ []) };
 

@@ -1,12 +1,14 @@
 //! Journals as values.
-ghost use Rattle.std.specs.Prelude.{◌≡◌, Ok, IfOk, IfErr, ◌≤◌, ◌+◌, ◌++◌, ◌∷◌, [], OnOk, IfSome};
+ghost use Rattle.std.specs.Prelude.{◌≡◌, true, Ok, IfOk, IfErr, ◌≤◌, ◌+◌, ◌++◌, ◌∷◌, [], OnOk, IfSome};
 ghost use Rattle.thp_history.specs.Prelude.{by};
 ghost use Rattle.thp_journal_reader.specs.Prelude.{began, journals_of, nodes_in, on_last, reads_later, with_event, with_line, AreJournals, BlocksGoAlong, IsLineInRange, IsReadingNodes};
+ghost use Rattle.thp_journal_writer.specs.Prelude.{includes};
+ghost use Rattle.thp_journal_writer.specs.declared.version.Version.TheVariants.{Underused};
 ghost use Rattle.thp_script.specs.Prelude.{ReportsFault, max_input};
 
 use crate::keeps_nodes::KeepsNodes;
 use crate::least_blocks::LeastBlocks;
-use crate::line::Line;
+use crate::line::{Accepted, Line};
 use crate::text_reader::TextReader;
 use std::alloc::{AllocError, Global};
 use thp_history::{Event, Shape, What};
@@ -30,7 +32,7 @@ pub struct ReadJournals {
     pub nodes: Sequence<ReadNode>,
 }
 
-/// Parses journals, or returns the first error of the text.
+/// Parses journals of version 1 to 3, or returns the first error of the text.
 ///
 /// The text is read once, from its start to its first error. Journals contain no blocks: each allocation gets the least block
 /// that no page holds; a page holds its block from its allocation to the next event that frees it.
@@ -39,7 +41,12 @@ pub fn read_journal(alloc: Global, text: &[u8]) -> Result<ReadJournals, ReadFaul
     ensures in_range { IfOk result AreJournals }
     ensures fault { IfErr result (ReportsFault (journals_of text.now)) }
 {
-    let reader: TextReader<Option<Nodes>> = TextReader::new(alloc, TextInParts::new(alloc), None);
+    let reader: TextReader<Option<Nodes>> = TextReader::new(
+        alloc,
+        Accepted::UpToVersion3,
+        TextInParts::new(alloc),
+        None,
+    );
     let reader = reader.read_part(text)?;
     match reader.finish() {
         Err(fault) => Err(ReadFault::Text {
@@ -133,6 +140,8 @@ impl KeepsNodes for Option<Nodes> {
     ghost goes_along = { λ number nodes. IsReadingNodes number nodes };
 
     ghost taken = { λ nodes. [] };
+
+    ghost allows = { λ v. includes Underused v ≡ true };
 
     ghost last_line = { max_input };
 

@@ -31,6 +31,6 @@ pub use follows_node::{FollowsNode, Stopped};
 pub use journals::{ReadJournals, ReadNode, read_journal};
 pub use keeps_nodes::KeepsNodes;
 pub use least_blocks::LeastBlocks;
-pub use line::{Line, Place};
+pub use line::{Accepted, Line, Place};
 pub use long_check::{Illegal, LongCheck, check_text, verdict};
 pub use text_reader::TextReader;

@@ -1,7 +1,8 @@
 //! Parses lines of a journal.
-ghost use Rattle.std.specs.Prelude.{◌≡◌, ◌≤◌, ◌<◌, ◌^◌, Ok, Err, IfOk, IfSome, MatchResult};
+ghost use Rattle.std.specs.Prelude.{◌≡◌, true, ◌≤◌, ◌<◌, ◌^◌, Ok, Err, IfOk, IfSome, MatchResult};
 ghost use Rattle.thp_history.specs.Prelude.{max_order, min_order};
-ghost use Rattle.thp_journal_reader.specs.Prelude.{before, line_by_words, line_in, line_of, line_may_stand, node_of, node_with, number_between, place_after, node_threshold_of, version_at, parsed_version, IsLineInRange};
+ghost use Rattle.thp_journal_reader.specs.Prelude.{before, line_by_words, line_in, line_of, accepted_at, accepts, accepts_node, accepts_version, line_may_stand, may_have_version, node_of, node_with, number_between, place_after, node_threshold_of, version_at, parsed_version, IsLineInRange};
+ghost use Rattle.thp_journal_writer.specs.declared.version.Version.{Version};
 
 use crate::event_line::{event_of, small_number};
 use thp_history::{Event, Shape};
@@ -29,6 +30,7 @@ fn version_of(word: &[u8]) -> Result<Version, TextKind>
         b"1" => Ok(Version::Plain),
         b"2" => Ok(Version::Orders),
         b"3" => Ok(Version::Underused),
+        b"4" => Ok(Version::Large),
         _ => Err(TextKind::BadNumber),
     }
 }
@@ -74,6 +76,7 @@ fn threshold_of(order: u32, word: &[u8]) -> Result<Option<u32>, TextKind>
 }
 
 fn node_with(
+    version: Version,
     number: &[u8],
     blocks: &[u8],
     order: u32,
@@ -82,11 +85,12 @@ fn node_with(
     requires least { min_order ≤ order }
     requires most { order ≤ max_order }
     requires threshold { IfSome underused (λ t. t < 2 ^ order) }
-    ensures value { result ≡ node_with number.now blocks.now order underused }
-    ensures in_range { IfOk result IsLineInRange }
+    ensures value { result ≡ node_with version number.now blocks.now order underused }
+    ensures in_range { IfOk result (IsLineInRange version) }
 {
-    let number = small_number(MAX_NODES as u32 - 1, number)?;
-    let blocks = number_between(1, Shape::MAX_BLOCKS, blocks)?;
+    let limits = version.limits();
+    let number = small_number(limits.last_node, number)?;
+    let blocks = number_between(1, limits.most_blocks, blocks)?;
     Ok(Line::Node {
         number,
         shape: Shape {
@@ -101,27 +105,27 @@ fn node_with(
 #[tactic(auto, unfolding(crate::specs::JournalLines::plain_node, crate::specs::JournalLines::ordered_node, crate::specs::JournalLines::underused_node))]
 fn node_of(version: Version, mut words: Words) -> Result<Line, TextKind>
     ensures value { result ≡ node_of version words.entry }
-    ensures in_range { IfOk result IsLineInRange }
+    ensures in_range { IfOk result (IsLineInRange version) }
 {
     let number = before(b"blocks", &mut words)?;
     match version {
         Version::Plain => {
             let blocks = one_word(words)?;
-            node_with(number, blocks, Shape::MAX_ORDER, None)
+            node_with(version, number, blocks, Shape::MAX_ORDER, None)
         }
         Version::Orders => {
             let blocks = before(b"order", &mut words)?;
             let order = one_word(words)?;
             let order = number_between(Shape::MIN_ORDER, Shape::MAX_ORDER, order)?;
-            node_with(number, blocks, order, None)
+            node_with(version, number, blocks, order, None)
         }
-        Version::Underused => {
+        Version::Underused | Version::Large => {
             let blocks = before(b"order", &mut words)?;
             let order = before(b"underused", &mut words)?;
             let threshold = one_word(words)?;
             let order = number_between(Shape::MIN_ORDER, Shape::MAX_ORDER, order)?;
             let threshold = threshold_of(order, threshold)?;
-            node_with(number, blocks, order, threshold)
+            node_with(version, number, blocks, order, threshold)
         }
     }
 }
@@ -130,7 +134,7 @@ fn node_of(version: Version, mut words: Words) -> Result<Line, TextKind>
 #[tactic(auto, unfolding(crate::specs::JournalLines::line_by, crate::specs::JournalLines::head_of))]
 fn by_words(version: Version, mut words: Words) -> Result<Line, TextKind>
     ensures value { result ≡ line_by_words version words.entry }
-    ensures in_range { IfOk result IsLineInRange }
+    ensures in_range { IfOk result (IsLineInRange version) }
 {
     let Some(name) = words.next() else {
         return Err(TextKind::BadWord);
@@ -154,7 +158,7 @@ fn by_words(version: Version, mut words: Words) -> Result<Line, TextKind>
 /// empty words, so its bytes are tested again only if they do not parse.
 pub(crate) fn line_of(version: Version, text: &[u8]) -> Result<Line, TextKind>
     ensures value { result ≡ line_of version text.now }
-    ensures in_range { IfOk result IsLineInRange }
+    ensures in_range { IfOk result (IsLineInRange version) }
 {
     match by_words(version, Words::of_line(text)) {
         Ok(line) => Ok(line),
@@ -162,23 +166,85 @@ pub(crate) fn line_of(version: Version, text: &[u8]) -> Result<Line, TextKind>
     }
 }
 
+/// The journals that a reader accepts. A line of another one has the error `bad-number`.
+#[derive(Clone, Copy, PartialEq, Eq, Debug)]
+pub enum Accepted {
+    /// Journals of version 1 to 3.
+    UpToVersion3,
+    /// Journals of every version.
+    EveryVersion,
+    /// The same, if a script can have their nodes: at most 8, each of at most 4,096 blocks.
+    ForScripts,
+}
+
+impl Accepted {
+    fn accepts_version(self, version: Version) -> bool
+        ensures { result ≡ accepts_version self version }
+    {
+        match self {
+            Accepted::UpToVersion3 => Version::Underused.includes(version),
+            Accepted::EveryVersion | Accepted::ForScripts => true,
+        }
+    }
+
+    fn accepts_node(self, number: u32, shape: &Shape) -> bool
+        ensures { result ≡ accepts_node self number shape.now }
+    {
+        match self {
+            Accepted::ForScripts => {
+                number < MAX_NODES as u32 && shape.blocks <= Shape::MAX_BLOCKS
+            }
+            Accepted::UpToVersion3 | Accepted::EveryVersion => true,
+        }
+    }
+
+    fn accepts(self, line: &Line) -> bool
+        ensures { result ≡ accepts self line.now }
+    {
+        match line {
+            Line::Head(version) => self.accepts_version(*version),
+            Line::Node { number, shape } => self.accepts_node(*number, shape),
+            Line::Happened(_) | Line::End => true,
+        }
+    }
+}
+
 /// A position between the lines of a journal.
 #[derive(Clone, Copy)]
 pub enum Place {
     /// Before the first line.
-    Start,
+    Start {
+        accepted: Accepted,
+    },
     /// After the version and the lines of this many nodes.
-    Inside { version: Version, nodes: u32 },
+    Inside {
+        accepted: Accepted,
+        version: Version,
+        nodes: u32,
+    },
     /// After the end.
-    Ended { version: Version },
+    Ended {
+        accepted: Accepted,
+        version: Version,
+    },
 }
 
 fn version_at(place: Place) -> Version
     ensures { result ≡ version_at place }
 {
     match place {
-        Place::Start => Version::Plain,
-        Place::Inside { version, .. } | Place::Ended { version } => version,
+        Place::Start { .. } => Version::Plain,
+        Place::Inside { version, .. } | Place::Ended { version, .. } => version,
+    }
+}
+
+fn accepted_at(place: Place) -> Accepted
+    ensures { result ≡ accepted_at place }
+{
+    match place {
+        Place::Start { accepted }
+        | Place::Inside { accepted, .. }
+        | Place::Ended { accepted, .. } => accepted,
     }
 }
 
@@ -186,7 +252,7 @@ fn may_stand(place: Place, line: &Line) -> bool
     ensures { result ≡ line_may_stand place line.now }
 {
     match (place, line) {
-        (Place::Start, Line::Head(_)) => true,
+        (Place::Start { .. }, Line::Head(_)) => true,
         (Place::Inside { nodes, .. }, Line::Node { number, .. }) => *number == nodes,
         (Place::Inside { nodes, .. }, Line::Happened(_) | Line::End) => 0 < nodes,
         _ => false,
@@ -195,20 +261,30 @@ fn may_stand(place: Place, line: &Line) -> bool
 
 /// Returns the position after a line.
 pub(crate) fn place_after(place: Place, line: &Line) -> Place
-    requires { IsLineInRange line.now }
+    requires { IsLineInRange (version_at place) line.now }
     ensures { result ≡ place_after place line.now }
 {
     match (place, line) {
         (_, Line::Head(version)) => Place::Inside {
+            accepted: accepted_at(place),
             version: *version,
             nodes: 0,
         },
-        (Place::Inside { version, .. }, Line::Node { number, .. }) => Place::Inside {
+        (
+            Place::Inside {
+                accepted,
+                version,
+                ..
+            },
+            Line::Node { number, .. },
+        ) => Place::Inside {
+            accepted,
             version,
             nodes: *number + 1,
         },
         (_, Line::Node { .. } | Line::Happened(_)) => place,
         (_, Line::End) => Place::Ended {
+            accepted: accepted_at(place),
             version: version_at(place),
         },
     }
@@ -218,9 +294,13 @@ pub(crate) fn place_after(place: Place, line: &Line) -> Place
 #[tactic(auto, unfolding(crate::specs::JournalLines::line_in))]
 pub(crate) fn line_in(place: Place, text: &[u8]) -> Result<Line, TextKind>
     ensures value { result ≡ line_in place text.now }
-    ensures in_range { IfOk result IsLineInRange }
+    ensures in_range { IfOk result (IsLineInRange (version_at place)) }
+    ensures within { IfOk result (λ line. (v : Version) → may_have_version (place_after place line) v ≡ true → may_have_version place v ≡ true) }
 {
     let line = line_of(version_at(place), text)?;
+    if !accepted_at(place).accepts(&line) {
+        return Err(TextKind::BadNumber);
+    }
     if !may_stand(place, &line) {
         return Err(TextKind::BadOrder);
     }

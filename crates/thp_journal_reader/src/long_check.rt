@@ -1,10 +1,11 @@
 //! The check of journals of any length.
 ghost use Rattle.std.specs.Prelude.{◌≡◌, ◌≢◌, ◌≤◌, ◌+◌, ◌++◌, Ok, Err, [], IfOk, IfErr, IfSome, All, None};
-ghost use Rattle.thp_journal_reader.specs.Prelude.{journals_of, journals_within, more_text_read, no_text_read, result_with, verdict_text, CanBeLegal, HasReadText, ReadJournals, ReportsFirst, ReportsIllegal};
+ghost use Rattle.thp_journal_reader.specs.Prelude.{journals_of, journals_accepted, journals_within, more_text_read, no_text_read, result_with, verdict_text, CanBeLegal, HasReadText, ReadJournals, ReportsFirst, ReportsIllegal};
 ghost use Rattle.thp_script.specs.Prelude.{max_counted, max_input, nothing_of, ReportsFault, Text};
 ghost use Rattle.thp_script.specs.declared.fault.ReadFault.TheVariants.{OutOfMemory};
 
 use crate::follower::FollowedNodes;
+use crate::line::Accepted;
 use crate::text_reader::TextReader;
 use arrayvec::ArrayString;
 use itoa::Buffer;
@@ -37,30 +38,30 @@ impl Model for LongCheck {
 }
 
 impl LongCheck {
-    /// Creates a check that has read nothing. The journals can have any length.
+    /// Creates a check that has read nothing. The journals can have any length and version.
     pub fn new(alloc: Global) -> LongCheck
         ensures { (text : Text) → result_with result text ≡ journals_within max_counted text }
     {
-        LongCheck::of(alloc, TextInParts::unlimited(alloc))
+        LongCheck::of(alloc, Accepted::EveryVersion, TextInParts::unlimited(alloc))
     }
 
-    /// Creates a check of an input, which has at most 16 MiB.
+    /// Creates a check of an input, which has at most 16 MiB and version 1 to 3.
     pub fn of_input(alloc: Global) -> LongCheck
         ensures reported { (text : Text) → result_with result text ≡ journals_of text }
         ensures most { result.text.most ≡ max_input }
     {
-        LongCheck::of(alloc, TextInParts::new(alloc))
+        LongCheck::of(alloc, Accepted::UpToVersion3, TextInParts::new(alloc))
     }
 
-    // a check of this text, of which nothing has been read
-    fn of(alloc: Global, text: TextInParts) -> LongCheck
+    // a check of this text, of which nothing has been read, and for a reader that accepts these journals
+    fn of(alloc: Global, accepted: Accepted, text: TextInParts) -> LongCheck
         requires nothing { text ≡ nothing_of text.most }
         requires counted { text.most ≤ max_counted }
-        ensures reported { (more : Text) → result_with result more ≡ journals_within text.most more }
+        ensures reported { (more : Text) → result_with result more ≡ journals_accepted accepted text.most more }
         ensures most { result.text.most ≡ text.most }
     {
         LongCheck {
-            text: TextReader::new(alloc, text, FollowedNodes::new(alloc)),
+            text: TextReader::new(alloc, accepted, text, FollowedNodes::new(alloc)),
         }
     }
 
@@ -148,7 +149,7 @@ pub fn verdict(illegal: Option<u64>) -> ArrayString<VERDICT>
     text
 }
 
-/// Returns the line of the first illegal event in a journal text, in the order of the text, or `None` if each node's events are
+/// Returns the line of the first illegal event in a journal text of version 1 to 3, in the order of the text, or `None` if each node's events are
 /// legal.
 ///
 /// The events are replayed as they are read, and not stored. The first error of the text takes precedence, even after an illegal

@@ -161,7 +161,10 @@ impl BlockHolders {
         ensures least { result ≡ least_of self.now }
         ensures inside { 0 < length self.now → result < length self.now }
     {
-        self.free.least().unwrap_or(0)
+        match self.free.least() {
+            Some(block) => block,
+            None => 0,
+        }
     }
 
     // Adds a holder of the block.

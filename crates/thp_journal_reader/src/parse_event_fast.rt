@@ -2,10 +2,11 @@
 //! such as a node's line, a close and errors, are left to `line`.
 ghost use Rattle.std.specs.Prelude.{◌≡◌, [], ◌∷◌, IfSome};
 ghost use Rattle.thp_journal_reader.specs.Prelude.{event_by, loss_event, unmap_event, FastEvent, FastJournalLine, FastEventOperands, FastOutcome, FastSet};
+ghost use Rattle.thp_journal_writer.specs.declared.version.Version.{Version};
 
 use crate::event_line::{EventWord, parse_word_fast};
 use crate::set_text::set_of_text;
-use thp_history::{Done, Event, Loss, MAX_CALLERS, Outcome, PageId, SubSet, What};
+use thp_history::{Done, Event, Loss, Outcome, PageId, SubSet, What};
 use thp_journal_writer::Version;
 use thp_script::{after_name, cut_at, parse_number_fast};
 
@@ -66,7 +67,7 @@ fn after_no_frame(text: &[u8]) -> Option<&[u8]>
 /// Parses the operands `PAGE OUTCOME SET`.
 #[inline(always)]
 fn parse_loss_event_fast(name: Loss, caller: u32, text: &[u8]) -> Option<(Event, &[u8])>
-    ensures { IfSome result (λ read. FastEventOperands (loss_event name) caller text.now read.0 read.1.now) }
+    ensures { (v : Version) → IfSome result (λ read. FastEventOperands v (loss_event v name) caller text.now read.0 read.1.now) }
 {
     let (page, rest) = parse_number_fast(b' ', u64::MAX, text)?;
     let (outcome, rest) = parse_outcome_fast(rest)?;
@@ -79,7 +80,7 @@ fn parse_loss_event_fast(name: Loss, caller: u32, text: &[u8]) -> Option<(Event,
 /// Parses the operands `PAGE FIRST COUNT OUTCOME SET`.
 #[inline(always)]
 fn parse_unmap_event_fast(caller: u32, text: &[u8]) -> Option<(Event, &[u8])>
-    ensures { IfSome result (λ read. FastEventOperands unmap_event caller text.now read.0 read.1.now) }
+    ensures { (v : Version) → IfSome result (λ read. FastEventOperands v (unmap_event v) caller text.now read.0 read.1.now) }
 {
     let (page, rest) = parse_number_fast(b' ', u64::MAX, text)?;
     let (first, rest) = parse_number_fast(b' ', u64::from(u16::MAX), rest)?;
@@ -100,7 +101,7 @@ fn parse_unmap_event_fast(caller: u32, text: &[u8]) -> Option<(Event, &[u8])>
 /// Parses the operands of an event, by its word. A close has none: its line is left to `line`.
 #[inline(always)]
 fn parse_operands_fast(word: EventWord, caller: u32, text: &[u8]) -> Option<(Event, &[u8])>
-    ensures { IfSome result (λ read. FastEventOperands (event_by word) caller text.now read.0 read.1.now) }
+    ensures { (v : Version) → IfSome result (λ read. FastEventOperands v (event_by v word) caller text.now read.0 read.1.now) }
 {
     match word {
         EventWord::OfPage(name) => {
@@ -135,7 +136,8 @@ fn parse_operands_fast(word: EventWord, caller: u32, text: &[u8]) -> Option<(Eve
 pub(crate) fn parse_event_fast(version: Version, text: &[u8]) -> Option<(Event, &[u8])>
     ensures { IfSome result (λ read. FastEvent version text.now read.0 read.1.now) }
 {
-    let (caller, rest) = parse_number_fast(b' ', u64::from(MAX_CALLERS - 1), text)?;
+    let last = version.limits().last_caller;
+    let (caller, rest) = parse_number_fast(b' ', u64::from(last), text)?;
     let (word, rest) = parse_word_fast(version, rest)?;
     parse_operands_fast(word, caller as u32, rest)
 }

@@ -1,10 +1,10 @@
 //! Reads journals whose bytes arrive in parts, for any kind of data about their nodes.
 ghost use Rattle.std.specs.Prelude.{◌≡◌, ◌≤◌, ◌+◌, ◌++◌, Ok, Err, [], IfOk, IfErr, length};
-ghost use Rattle.thp_journal_reader.specs.Prelude.{fault_at, journals_in, result_of_lines, so_far, result_with, Start};
+ghost use Rattle.thp_journal_reader.specs.Prelude.{fault_at, journals_in, result_of_lines, so_far, result_with, AllowsVersionsAt, Start};
 ghost use Rattle.thp_script.specs.Prelude.{fault_after, result_after, IsCounted, Text};
 
 use crate::keeps_nodes::KeepsNodes;
-use crate::line::{Line, Place, line_in, place_after};
+use crate::line::{Accepted, Line, Place, line_in, place_after};
 use crate::parse_event_fast::parse_event_fast;
 use std::alloc::{AllocError, Global};
 use thp_script::{TextFault, TextInParts, TextKind, WholeLine, fault_after};
@@ -34,6 +34,7 @@ fn add_fast<'p, N: KeepsNodes>(
     requires along { N.goes_along text.old.line nodes.old }
     requires limit { text.old.most ≤ N.last_line }
     requires counted { IsCounted part.now text.old }
+    requires allows { AllowsVersionsAt N.allows place }
     ensures reports { IfOk result (λ rest. (more : Text) → result_after text.new more (result_of_lines (N.reported nodes.new) place text.new.line (text.new.begun ++ (rest.now ++ more))) ≡ result_after text.old more (result_of_lines (N.reported nodes.old) place text.old.line (text.old.begun ++ (part.now ++ more)))) }
     ensures along { IfOk result (λ _. N.goes_along text.new.line nodes.new) }
     ensures counted { IfOk result (λ rest. IsCounted rest.now text.new) }
@@ -44,6 +45,7 @@ fn add_fast<'p, N: KeepsNodes>(
     let Place::Inside {
         version,
         nodes: count,
+        ..
     } = place
     else {
         return Ok(part);
@@ -72,16 +74,16 @@ pub struct TextReader<N> {
 }
 
 impl<N: KeepsNodes + Drop> TextReader<N> {
-    /// Creates the state before the first byte of this text.
-    pub fn new(alloc: Global, text: TextInParts, nodes: N) -> TextReader<N>
+    /// Creates the state before the first byte of this text, for a reader that accepts these journals.
+    pub fn new(alloc: Global, accepted: Accepted, text: TextInParts, nodes: N) -> TextReader<N>
         ensures nodes { result.nodes ≡ nodes }
-        ensures place { result.place ≡ Start }
+        ensures place { result.place ≡ Start accepted }
         ensures text { result.text ≡ text }
     {
         TextReader {
             alloc,
             nodes,
-            place: Place::Start,
+            place: Place::Start { accepted },
             text,
         }
     }
@@ -90,9 +92,11 @@ impl<N: KeepsNodes + Drop> TextReader<N> {
     pub fn read_part(self, part: &[u8]) -> Result<TextReader<N>, AllocError>
         requires along { N.goes_along self.text.line self.nodes }
         requires limit { self.text.most ≤ N.last_line }
+        requires allows { AllowsVersionsAt N.allows self.place }
         ensures text { IfOk result (λ r. (more : Text) → result_with (so_far (N.reported r.nodes) r.place r.text) more ≡ result_with (so_far (N.reported self.nodes) self.place self.text) (part.now ++ more)) }
         ensures along { IfOk result (λ r. N.goes_along r.text.line r.nodes) }
         ensures limit { IfOk result (λ r. r.text.most ≡ self.text.most) }
+        ensures allows { IfOk result (λ r. AllowsVersionsAt N.allows r.place) }
         ensures taken { IfOk result (λ r. N.taken r.nodes ≡ N.taken self.nodes) }
     {
         let TextReader {

@@ -1,7 +1,7 @@
 //! The check of journals of any length that also writes the script that repeats them.
-ghost use Rattle.std.specs.Prelude.{◌≡◌, ◌++◌, Ok, Err, [], IfOk, IfErr, ℕ, false, List, OnOk};
+ghost use Rattle.std.specs.Prelude.{◌≡◌, ⊤, ◌++◌, Ok, Err, [], IfOk, IfErr, ℕ, false, List, OnOk};
 ghost use Rattle.thp_journal_scripts.specs.Prelude.{taken_of, untaken, AddsLine, AreScripted, IsScriptOf, IsScripting};
-ghost use Rattle.thp_journal_reader.specs.Prelude.{follows_later, journals_within, nodes_read, result_with, FollowsLines, KeepsNothing, ReportsLongReadFault};
+ghost use Rattle.thp_journal_reader.specs.Prelude.{follows_later, journals_for_scripts, nodes_read, result_with, FollowsLines, KeepsNothing, ReportsLongReadFault};
 ghost use Rattle.thp_journal_reader.specs.declared.journals.ReadJournals.{ReadJournals};
 ghost use Rattle.thp_journal_reader.specs.declared.journals.ReadNode.{ReadNode};
 ghost use Rattle.thp_script.specs.Prelude.{max_counted, Text};
@@ -11,7 +11,7 @@ use crate::journal_script::JournalScript;
 use std::alloc::{AllocError, Global};
 use std::marker::Model;
 use thp_check::Replay;
-use thp_journal_reader::{FollowedNodes, Illegal, KeepsNodes, Line, TextReader};
+use thp_journal_reader::{Accepted, FollowedNodes, Illegal, KeepsNodes, Line, TextReader};
 use thp_script::{LongReadFault, TextInParts};
 
 /// A check of journals of any length that also writes the script that repeats them, up to the first illegal event. It differs
@@ -35,15 +35,17 @@ impl Model for ScriptCheck {
 }
 
 impl ScriptCheck {
-    /// Creates a check that has read nothing. The journals can have any length.
+    /// Creates a check that has read nothing. The journals can have any length and version, and the
+    /// nodes that a script can have: at most 8, each of at most 4,096 blocks.
     pub fn new(alloc: Global) -> ScriptCheck
-        ensures reports { (text : Text) → result_with result.read text ≡ journals_within max_counted text }
+        ensures reports { (text : Text) → result_with result.read text ≡ journals_for_scripts text }
         ensures taken { result.taken ≡ [] }
         ensures untaken { result.untaken ≡ [] }
     {
         ScriptCheck {
             text: TextReader::new(
                 alloc,
+                Accepted::ForScripts,
                 TextInParts::unlimited(alloc),
                 ScriptedNodes::new(alloc),
             ),
@@ -161,6 +163,8 @@ impl KeepsNodes for ScriptedNodes {
     ghost goes_along = { λ number nodes. FollowsLines (λ replay. replay) KeepsNothing false number nodes.checked × IsScripting (nodes_read nodes.checked.lines) nodes.checked.follower.illegal nodes.script };
 
     ghost taken = { λ nodes. taken_of nodes.script };
+
+    ghost allows = { λ v. ⊤ };
 
     ghost last_line = { max_counted };
 

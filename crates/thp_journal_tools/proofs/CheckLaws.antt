@@ -11,6 +11,7 @@ use Rattle.thp_journal_tools.specs.declared.checking.Summed.{Summed}
 use Rattle.thp_script.specs.declared.fault.LongReadFault.{LongReadFault}
 use Rattle.thp_script.specs.declared.fault.LongReadFault.TheVariants as summary
 use Rattle.thp_journal_reader.specs.Prelude.{ReportsFirst, ReportsIllegal, ReportsLongReadFault, journals_within, verdict_text}
+use Rattle.thp_journal_reader.specs.declared.line.Accepted.TheVariants.{EveryVersion}
 use Rattle.thp_journal_reader.proofs.AnswerLaws.{free_choice}
 use Rattle.thp_journal_reader.proofs.VerdictLaws.{fault_of_journal, same_journals}
 use Rattle.thp_cli.specs.declared.calls.DeviceCall.{DeviceCall}
@@ -74,7 +75,7 @@ check_of options bytes text found is written =
         spelled = is.spelled;
         illegal = line_of_illegal found.illegal;
         reported = reported;
-        free_choice = λ can. free_choice max_counted bytes is.journals (line_of_illegal found.illegal) is.spelled reported is.journals is.spelled can;
+        free_choice = λ can. free_choice EveryVersion max_counted bytes is.journals (line_of_illegal found.illegal) is.spelled reported is.journals is.spelled can;
         answer = refl;
         written = refl;
       };
@@ -89,7 +90,7 @@ check_of_input options input bytes text illegal read c =
     let v = c.verdict in
     record {
       front = c.front;
-      verdict = record { journals = v.journals; spelled = sym (same_journals max_counted input bytes read) ∙ v.spelled; illegal = v.illegal; reported = v.reported; free_choice = v.free_choice; answer = v.answer; written = v.written };
+      verdict = record { journals = v.journals; spelled = sym (same_journals EveryVersion max_counted input bytes read) ∙ v.spelled; illegal = v.illegal; reported = v.reported; free_choice = v.free_choice; answer = v.answer; written = v.written };
       first = c.first;
       totals = c.totals;
       totals_are = c.totals_are;
@@ -107,7 +108,7 @@ module _ {A : Type 0} (IsAnswer : List ℕ → A → List ℕ → Type 0) (of_in
   pub ends_at_find : (old : Option (List ℕ)) (reader_failed writer_failed : Bool) (fault : RunFault ℕ) (r : Result A (RunFault ℕ)) → IsFindFault known reader_failed fault → writer_failed ≡ false → r ≡ Err fault
       → LongEnds IsAnswer known old old reader_failed writer_failed r
   ends_at_find old rf wf (Text line kind) r why f is =
-      ends_early max_counted IsAnswer HasFault of_input (fault_of_journal max_counted) known why.0 why.1 old rf wf (reading.Text line kind) r why.2 why.3 f is
+      ends_early max_counted IsAnswer HasFault of_input (fault_of_journal EveryVersion max_counted) known why.0 why.1 old rf wf (reading.Text line kind) r why.2 why.3 f is
   ends_at_find old rf wf OutOfMemory r why f is = rw is (keeps_same old, why, f)
   ends_at_find old rf wf Read r why f is = rw is (keeps_same old, why, f)
   ends_at_find old rf wf Write r why f is = absurd why
@@ -117,13 +118,13 @@ module _ {A : Type 0} (IsAnswer : List ℕ → A → List ℕ → Type 0) (of_in
     pub ends_at_write : (old new : Option (List ℕ)) (reader_failed writer_failed : Bool) (x : A) (text : List ℕ) (o : Option (Unit {0})) (r : Result A (RunFault ℕ)) → IsAnswer bytes x text → o ≡ None
         → IfNone o (WritesFront old new text) → IfNone o (writer_failed ≡ true) → reader_failed ≡ false → r ≡ Err Write → LongEnds IsAnswer known old new reader_failed writer_failed r
     ends_at_write old new rf wf x text o r answer none cut failed e is =
-        ends_cut max_counted IsAnswer HasFault of_input (fault_of_journal max_counted) known bytes read old new rf wf x text r answer (rw none at cut) e (rw none at failed) is
+        ends_cut max_counted IsAnswer HasFault of_input (fault_of_journal EveryVersion max_counted) known bytes read old new rf wf x text r answer (rw none at cut) e (rw none at failed) is
 
     -- the text was written
     pub ends_reported : (old new : Option (List ℕ)) (reader_failed writer_failed : Bool) (x : A) (text : List ℕ) (o : Option (Unit {0})) (u : Unit {0}) → IsAnswer bytes x text → ok_or o at_writer ≡ Ok u
         → IfSome o (λ _. Appends old new text) → IfSome o (λ _. writer_failed ≡ false) → reader_failed ≡ false → LongEnds IsAnswer known old new reader_failed writer_failed (Ok x)
     ends_reported old new rf wf x text (Some v) u answer some done flag e =
-        ends_written max_counted IsAnswer HasFault of_input (fault_of_journal max_counted) known bytes read old new rf wf x text (Ok x) answer done e flag refl
+        ends_written max_counted IsAnswer HasFault of_input (fault_of_journal EveryVersion max_counted) known bytes read old new rf wf x text (Ok x) answer done e flag refl
     ends_reported old new rf wf x text None u answer some done flag e = absurd cc
 
 -- no call of the writer was made

@@ -13,6 +13,7 @@ use Rattle.thp_cli.specs.declared.fault.RunFault.TheVariants as run
 use Rattle.thp_cli.specs.Prelude.{ReadsOn, WritesOn, WritesFront, Device, Source}
 use Rattle.thp_journal_reader.specs.declared.journals.ReadNode.{ReadNode}
 use Rattle.thp_script.specs.Prelude.{max_counted, IsFrontOf}
+use Rattle.thp_journal_reader.specs.declared.line.Accepted.TheVariants.{EveryVersion}
 use Rattle.thp_journal_reader.proofs.VerdictLaws.{same_journals}
 use Rattle.thp_journal_tools.specs.declared.draw_program.DrawOptions.{DrawOptions}
 use Rattle.thp_journal_tools.specs.Checks.{IsFindFault}
@@ -28,7 +29,7 @@ drawing_of options bytes text nodes ending found shown = record { journals = fou
 -- what is drawn of what was read is drawn of the whole input
 pub drawing_of_input : (options : DrawOptions) (input bytes text : List ℕ) (ending : Ending) → IsFrontOf max_counted bytes input → IsDrawingOf options bytes ending text → IsDrawingOf options input ending text
 drawing_of_input options input bytes text ending read d =
-    record { journals = d.journals; spelled = sym (same_journals max_counted input bytes read) ∙ d.spelled; nodes = d.nodes; drawn = d.drawn; shown = d.shown }
+    record { journals = d.journals; spelled = sym (same_journals EveryVersion max_counted input bytes read) ∙ d.spelled; nodes = d.nodes; drawn = d.drawn; shown = d.shown }
 
 -- ---- nothing was written
 
@@ -43,7 +44,7 @@ lacks_in : (known : Option (List ℕ)) (bytes : List ℕ) (nodes : List DrawnNod
 lacks_in None bytes nodes number read found few = tt
 lacks_in (Some input) bytes nodes number read found few = record {
   journals = found.journals;
-  spelled = sym (same_journals max_counted input bytes read) ∙ found.spelled;
+  spelled = sym (same_journals EveryVersion max_counted input bytes read) ∙ found.spelled;
   lacks = rw (same_length found.journals.nodes nodes found.drawn) few;
 }
 

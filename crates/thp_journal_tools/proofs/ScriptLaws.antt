@@ -9,7 +9,7 @@ use Rattle.thp_journal_scripts.specs.declared.script_check.Scripted.{Scripted}
 use Rattle.thp_script.specs.Prelude.{max_counted, IsFrontOf}
 use Rattle.thp_script.specs.declared.fault.LongReadFault.{LongReadFault}
 use Rattle.thp_script.specs.declared.fault.LongReadFault.TheVariants as summary
-use Rattle.thp_journal_reader.specs.Prelude.{journals_within, ReportsLongReadFault}
+use Rattle.thp_journal_reader.specs.Prelude.{journals_for_scripts, ReportsLongReadFault}
 
 -- ---- a writer that takes texts
 
@@ -97,7 +97,7 @@ is_err (Err e) P is = tt
 
 -- the journal has an error, or memory could not be allocated
 pub end_at_finish : (known old new : Option (List ℕ)) (bytes : List ℕ) → IfSome known (IsFrontOf max_counted bytes) → (rf wf : Bool) → rf ≡ false → wf ≡ false → (fault : LongReadFault) (r : Result Scripted (RunFault ℕ))
-    → IsErrAnd r (λ e. e ≡ fault_of_long_read fault) → ReportsLongReadFault (journals_within max_counted bytes) fault → IsScriptEnd known old new rf wf r
+    → IsErrAnd r (λ e. e ≡ fault_of_long_read fault) → ReportsLongReadFault (journals_for_scripts bytes) fault → IsScriptEnd known old new rf wf r
 end_at_finish known old new bytes read rf wf no_read no_write fault (Ok found) is reported = absurd is
 end_at_finish known old new bytes read rf wf no_read no_write (summary.Text fault) (Err e) is reported =
     subst (λ (f : RunFault ℕ). IsScriptEnd known old new rf wf (Err f)) (sym is) ((bytes, read, reported), no_read, no_write)

@@ -1,16 +1,19 @@
 -- The command line of `thpdraw`.
-use Rattle.std.specs.Prelude.{◌-◌, ℕ, pos, List, Some, Result, codes}
+use Rattle.std.specs.Prelude.{ℕ, pos, List, Some, Result, codes}
 use Rattle.clap.specs.Words.{App, Row, Rule, one_of, with_rule}
 use Rattle.clap.specs.declared.builder.value_parser.ValueParser.TheVariants.{Signed}
 use Rattle.clap.specs.declared.error.Error.{Error}
 use Rattle.thp_cli.specs.Prelude.{bare_app, flag_rule, valued_rule, ReportsFlag, ReportsNumber}
-use Rattle.thp_script.specs.Prelude.{max_nodes}
 use Rattle.thp_journal_tools.specs.declared.draw_program.DrawOptions.{DrawOptions}
 use Rattle.thp_journal_tools.specs.Words.{ReadsWords}
 
--- `--node NODE`: 0 to 7
+-- the greatest number of a node in a journal
+abbrev pub max_node_number : ℕ
+max_node_number = 65535
+
+-- `--node NODE`
 abbrev pub node_rule : Rule
-node_rule = record (valued_rule (codes "node")) { parser = Some (Signed (pos 0) (pos (max_nodes - 1))) }
+node_rule = record (valued_rule (codes "node")) { parser = Some (Signed (pos 0) (pos max_node_number)) }
 
 -- the command `thpdraw`, with the options `--table`, `--node` and `--progress`
 abbrev pub thpdraw : App

@@ -6,7 +6,7 @@ use Rattle.thp_check.specs.Prelude.{explanation}
 use Rattle.thp_journal_scripts.specs.declared.folding.Moved.{Moved}
 use Rattle.thp_journal_reader.specs.declared.long_check.Illegal.{Illegal}
 use Rattle.thp_journal_reader.specs.declared.journals.ReadJournals.{ReadJournals}
-use Rattle.thp_journal_reader.specs.Prelude.{ReportsFirst, journals_within, verdict_text}
+use Rattle.thp_journal_reader.specs.Prelude.{ReportsFirst, journals_for_scripts, verdict_text}
 use Rattle.thp_journal_scripts.specs.Prelude.{IsScriptOf}
 use Rattle.thp_cli.specs.declared.fault.RunFault.{RunFault}
 use Rattle.thp_cli.specs.declared.fault.RunFault.TheVariants.{Text, OutOfMemory, Read, Write}
@@ -20,7 +20,7 @@ use Rattle.thp_journal_scripts.specs.declared.script_check.Scripted.{Scripted}
 -- another order, and the number of tries out of turn, are as found.
 pub record IsScripted (bytes text : List ℕ) (found : Scripted) : Type 0 where
   pub journals : ReadJournals
-  pub spelled : journals_within max_counted bytes ≡ Ok journals
+  pub spelled : journals_for_scripts bytes ≡ Ok journals
   pub first : ReportsFirst journals.nodes found.illegal
   pub script : IsScriptOf journals.nodes found.illegal text found.moved found.out_of_turn
 
@@ -40,7 +40,7 @@ abbrev pub IsScriptEnd : Option (List ℕ) → Option (List ℕ) → Option (Lis
 IsScriptEnd known old new reader_failed writer_failed (Ok found) =
     ((bytes : List ℕ) × (text : List ℕ) × IfSome known (IsFrontOf max_counted bytes) × Appends old new text × IsScripted bytes text found) × (reader_failed ≡ false) × (writer_failed ≡ false)
 IsScriptEnd known old new reader_failed writer_failed (Err (Text line kind)) =
-    ((bytes : List ℕ) × IfSome known (IsFrontOf max_counted bytes) × (journals_within max_counted bytes ≡ Err (line, kind))) × (reader_failed ≡ false) × (writer_failed ≡ false)
+    ((bytes : List ℕ) × IfSome known (IsFrontOf max_counted bytes) × (journals_for_scripts bytes ≡ Err (line, kind))) × (reader_failed ≡ false) × (writer_failed ≡ false)
 IsScriptEnd known old new reader_failed writer_failed (Err fault) = IsDeviceFault reader_failed writer_failed fault
 
 -- how it ends: the writer took a text, and the result is right

@@ -14,8 +14,12 @@ Each node is drawn over its events, from left to right:
   - when each caller had pages in its batch
   - how long the oldest page has waited
   - the number of frames held and given back
-  - the life of each page as a bar; with more than 60 pages, the number of pages in each stage
+  - the life of each page as a bar; with more than 60 pages, the number of pages in each stage; with more than 1,000,
+    also the lives of the first 60
   - above, the pages whose split is prevented by pins
+
+Of more than eight nodes, the first 256 are drawn small, on the same scales: the queue and the frames given back. A picture has
+at most 2 MB.
 
 A node with an illegal event is drawn up to the first one. With --node, only this node is drawn, with its number:
 

@@ -16,7 +16,6 @@ use std::alloc::{AllocError, Global};
 use std::io::{Read, Write};
 use std::time::Clock;
 use thp_cli::{Program, ProgramFault, VERSION, Watched, WordsFault, flag};
-use thp_script::MAX_NODES;
 
 impl Request for DrawOptions {
     ghost program = { Thpdraw };
@@ -94,15 +93,18 @@ pub struct DrawOptions {
     pub progress: bool,
 }
 
+// The greatest number of a node in a journal.
+const MAX_NODE_NUMBER: i64 = 65_535;
+
 fn node_option<'a>(alloc: Global) -> Arg<'a>
     ensures { IsOption result node_rule }
 {
     Arg::new(alloc, "node")
         .long("node")
         .value_name("NODE")
-        .help("Draw this node only, 0 to 7")
+        .help("Draw this node only, 0 to 65535")
         .action(ArgAction::Set)
-        .value_parser(value_parser!(u32).range(0..=MAX_NODES as i64 - 1))
+        .value_parser(value_parser!(u32).range(0..=MAX_NODE_NUMBER))
 }
 
 /// Returns the command with its options.

@@ -11,7 +11,7 @@ use std::marker::Model;
 use thp_check::Replay;
 use thp_drawing::{DrawnNode, IllegalEvent};
 use thp_history::{Event, Shape};
-use thp_journal_reader::{FollowedNodes, FollowsNode, Illegal, Stopped, TextReader};
+use thp_journal_reader::{Accepted, FollowedNodes, FollowsNode, Illegal, Stopped, TextReader};
 use thp_journal_writer::Totals;
 use thp_metrics::{NodeSeries, SeriesEnd};
 use thp_script::{LongReadFault, ReadFault, ReadsParts, TextInParts};
@@ -36,13 +36,14 @@ impl<K: Drop, F: FollowsNode<Kept = K>> Model for KeepingCheck<K, F> {
 }
 
 impl<K: Drop, F: FollowsNode<Kept = K>> KeepingCheck<K, F> {
-    /// Creates a check that has read nothing. The journals can have any length.
+    /// Creates a check that has read nothing. The journals can have any length and version.
     pub fn new(alloc: Global) -> KeepingCheck<K, F>
         ensures { (text : Text) → result_with result text ≡ journals_within max_counted text }
     {
         KeepingCheck {
             text: TextReader::new(
                 alloc,
+                Accepted::EveryVersion,
                 TextInParts::unlimited(alloc),
                 FollowedNodes::new(alloc),
             ),

@@ -2,7 +2,7 @@
 ghost use Rattle.std.specs.Prelude.{◌≡◌, ◌++◌, [], ℕ, List, IfErr, IfOk, IfSome, false, OnOk, option_map};
 ghost use Rattle.thp_script.specs.Prelude.{max_counted, IsFrontOf};
 ghost use Rattle.thp_cli.specs.Prelude.{ReadsOn};
-ghost use Rattle.thp_journal_reader.specs.Prelude.{journals_within, result_with};
+ghost use Rattle.thp_journal_reader.specs.Prelude.{journals_for_scripts, result_with};
 ghost use Rattle.thp_journal_tools.specs.Scripting.{IsDeviceFault, ScriptEnds, WriterGrows, illegal_text, moved_text, note, notes_of, some_text};
 ghost use Rattle.std.specs.Io.KnownBytes.{Appends};
 
@@ -52,7 +52,7 @@ fn write_parts<R: Read, W: Write>(
 ) -> Result<ScriptCheck, RunFault<u64>>
     requires reader { reader.old.failed ≡ false }
     requires writer { writer.old.failed ≡ false }
-    ensures parts { IfOk result (λ check. (bytes : List ℕ) × IfSome (R.remaining reader.old.device) (IsFrontOf max_counted bytes) × (result_with check.read [] ≡ journals_within max_counted bytes)) }
+    ensures parts { IfOk result (λ check. (bytes : List ℕ) × IfSome (R.remaining reader.old.device) (IsFrontOf max_counted bytes) × (result_with check.read [] ≡ journals_for_scripts bytes)) }
     ensures grows { WriterGrows (W.contents writer.old.device) (W.contents writer.new.device) }
     ensures text { IfOk result (λ check. Appends (W.contents writer.old.device) (W.contents writer.new.device) check.taken) }
     ensures flags { IfOk result (λ _. (reader.new.failed ≡ false) × (writer.new.failed ≡ false)) }

@@ -1,12 +1,14 @@
 -- Journals as text: the nodes of a run, and the events of each (this project's journal format).
-use Rattle.std.specs.Prelude.{ℕ, ◌+◌, ◌==◌, ◌||◌, Bool, true, false, List, [], ◌∷◌, ◌++◌, map, Option, Some, None, is_some, codes, if◌then◌else◌, decimal}
+use Rattle.std.specs.Prelude.{ℕ, ◌+◌, ◌-◌, ◌==◌, ◌||◌, nat_lt, Bool, true, false, List, [], ◌∷◌, ◌++◌, length, map, Option, Some, None, is_some, codes, if◌then◌else◌, decimal}
 use Rattle.std.specs.List.{list_any, list_all, flat_map}
+use Rattle.thp_history.specs.declared.events.Event.{Event}
 use Rattle.thp_history.specs.declared.events.What.{What}
 use Rattle.thp_history.specs.declared.events.What.TheVariants.{Write, Zero}
 use Rattle.thp_history.specs.declared.shape.Shape.{Shape}
-use Rattle.thp_history.specs.Prelude.{History, some_event}
+use Rattle.thp_history.specs.Prelude.{History, max_blocks, max_callers, max_node_blocks, some_event}
 use Rattle.thp_journal_writer.specs.declared.version.Version.{Version}
-use Rattle.thp_journal_writer.specs.declared.version.Version.TheVariants.{Plain, Orders, Underused}
+use Rattle.thp_journal_writer.specs.declared.version.Version.TheVariants.{Plain, Orders, Underused, Large}
+use Rattle.thp_journal_writer.specs.declared.version.VersionLimits.{VersionLimits}
 use Rattle.thp_journal_writer.specs.EventLines.{spaced_line, event_line}
 
 -- the shape of a node, and its events
@@ -27,10 +29,28 @@ reports_underused journal = is_some journal.0.underused || some_event is_access 
 abbrev pub has_order_9 : Journal → Bool
 has_order_9 journal = journal.0.order == 9
 
+-- the greatest numbers that the lines of a version can contain
+abbrev pub version_limits : Version → VersionLimits
+version_limits Large = record { last_node = 65535; most_blocks = max_node_blocks; last_caller = 65535 }
+version_limits _ = record { last_node = 7; most_blocks = max_blocks; last_caller = max_callers - 1 }
+
+-- the caller's number is too great for the versions before 4
+abbrev pub has_large_caller : Event → Bool
+has_large_caller e = nat_lt 63 e.caller
+
+-- the node has more blocks, or an event of a greater caller, than the versions before 4 can contain
+unfoldable pub is_large : Journal → Bool
+is_large journal = nat_lt max_blocks journal.0.blocks || list_any has_large_caller journal.1
+
+-- there are more nodes than the versions before 4 can contain, or one of them is large
+unfoldable pub are_large : List Journal → Bool
+are_large journals = nat_lt 8 (length journals) || list_any is_large journals
+
 -- the least version that suffices for these journals
 unfoldable pub version_of : List Journal → Version
 version_of journals =
-    if list_any reports_underused journals then Underused
+    if are_large journals then Large
+    else if list_any reports_underused journals then Underused
     else if list_all has_order_9 journals then Plain
     else Orders
 
@@ -39,6 +59,7 @@ abbrev pub version_number : Version → ℕ
 version_number Plain = 1
 version_number Orders = 2
 version_number Underused = 3
+version_number Large = 4
 
 -- the first line of a text
 abbrev pub version_line : Version → List ℕ
@@ -57,11 +78,16 @@ blocks_words n s = codes "node" ∷ decimal n ∷ codes "blocks" ∷ decimal s.b
 abbrev pub order_words : ℕ → Shape → List (List ℕ)
 order_words n s = blocks_words n s ++ codes "order" ∷ decimal s.order ∷ []
 
+-- the same and its threshold
+abbrev pub underused_words : ℕ → Shape → List (List ℕ)
+underused_words n s = order_words n s ++ codes "underused" ∷ underused_word s.underused ∷ []
+
 -- the words of node n in a version
 abbrev pub node_words : Version → ℕ → Shape → List (List ℕ)
 node_words Plain n s = blocks_words n s
 node_words Orders n s = order_words n s
-node_words Underused n s = order_words n s ++ codes "underused" ∷ underused_word s.underused ∷ []
+node_words Underused n s = underused_words n s
+node_words Large n s = underused_words n s
 
 -- the line of node n
 unfoldable pub node_line : Version → ℕ → Shape → List ℕ

@@ -1,23 +1,28 @@
 -- Journals written line by line (this project's journal format).
-use Rattle.std.specs.Prelude.{◌≡◌, ◌==◌, ⊤, nat_le, ℕ, Bool, List, [], ◌∷◌, ◌++◌, length, is_some, codes, if◌then◌else◌, flat_map}
+use Rattle.std.specs.Prelude.{◌≡◌, ◌==◌, ⊤, nat_le, nat_lt, ℕ, Bool, List, [], ◌∷◌, ◌++◌, length, is_some, codes, if◌then◌else◌, flat_map}
 use Rattle.thp_history.specs.declared.events.Event.{Event}
 use Rattle.thp_history.specs.declared.events.What.{What}
 use Rattle.thp_history.specs.declared.events.What.TheVariants.{Write, Zero, Used}
 use Rattle.thp_history.specs.declared.shape.Shape.{Shape}
-use Rattle.thp_history.specs.Prelude.{History}
+use Rattle.thp_history.specs.Prelude.{History, max_blocks}
 use Rattle.thp_journal_writer.specs.declared.stream.PutFault.{PutFault}
 use Rattle.thp_journal_writer.specs.declared.stream.PutFault.TheVariants.{OutOfMemory, VersionTooLow}
 use Rattle.thp_journal_writer.specs.declared.version.Version.{Version}
-use Rattle.thp_journal_writer.specs.declared.version.Version.TheVariants.{Plain, Orders, Underused}
+use Rattle.thp_journal_writer.specs.declared.version.Version.TheVariants.{Plain, Orders, Underused, Large}
 use Rattle.thp_journal_writer.specs.EventLines.{event_line}
-use Rattle.thp_journal_writer.specs.Journals.{Journal, ended, journal_lines_from, journal_text, node_line, version_line, version_number, version_of}
+use Rattle.thp_journal_writer.specs.Journals.{Journal, ended, has_large_caller, journal_lines_from, journal_text, node_line, version_line, version_number, version_of}
 
 -- the least version for a node of this shape
 abbrev pub shape_version : Shape → Version
 shape_version s =
-    if is_some s.underused then Underused
+    if nat_lt max_blocks s.blocks then Large
+    else if is_some s.underused then Underused
     else if s.order == 9 then Plain
     else Orders
+
+-- the least version for node n, which has this shape
+abbrev pub node_version : ℕ → Shape → Version
+node_version n s = if nat_lt 7 n then Large else shape_version s
 
 -- the least version that has a word for the event
 abbrev pub what_version : What → Version
@@ -25,6 +30,10 @@ what_version (Write page first count) = Underused
 what_version (Zero page first count) = Underused
 what_version (Used page) = Underused
 what_version _ = Plain
+
+-- the least version that has a line for the event
+abbrev pub event_version : Event → Version
+event_version e = if has_large_caller e then Large else what_version e.what
 
 -- a version includes itself and each earlier one
 abbrev pub includes : Version → Version → Bool

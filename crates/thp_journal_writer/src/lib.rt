@@ -22,5 +22,5 @@ pub use events::{event_page, put_event_line, put_outcome};
 pub use numbers::{put, put_number};
 pub use stream::{PutFault, lines_make_a_journal, put_event, put_node};
 pub use totals::{Totals, put_totals, put_totals_of_each};
-pub use version::Version;
+pub use version::{Version, VersionLimits};
 pub use writer::{NodeHistory, journal_text, put_end, put_version};

@@ -1,6 +1,6 @@
 //! Writes journals line by line, as the events happen.
 ghost use Rattle.std.specs.Prelude.{◌≡◌, ◌++◌, true, false, IfErr, OnOk, OnErr};
-ghost use Rattle.thp_journal_writer.specs.Prelude.{ended, event_line, node_line, shape_version, includes, what_version, EventFollows, IfTooLow, LeastVersionIsJournalText, NodeFollows, VersionComesFirst};
+ghost use Rattle.thp_journal_writer.specs.Prelude.{ended, event_line, event_version, node_line, node_version, includes, EventFollows, IfTooLow, LeastVersionIsJournalText, NodeFollows, VersionComesFirst};
 ghost use Rattle.thp_journal_writer.specs.declared.stream.PutFault.TheVariants.{VersionTooLow, OutOfMemory};
 
 use crate::events::put_event_line;
@@ -17,12 +17,12 @@ pub fn put_node(
     shape: &Shape,
 ) -> Result<(), PutFault>
     ensures line { OnOk result (text.new.items ≡ text.old.items ++ ended (node_line version n shape.now)) }
-    ensures reported { OnOk result (includes version (shape_version shape.now) ≡ true) }
-    ensures too_low { IfErr result (λ fault. IfTooLow fault (λ _. includes version (shape_version shape.now) ≡ false)) }
-    ensures least { IfErr result (λ fault. IfTooLow fault (λ least. least ≡ shape_version shape.now)) }
+    ensures reported { OnOk result (includes version (node_version n shape.now) ≡ true) }
+    ensures too_low { IfErr result (λ fault. IfTooLow fault (λ _. includes version (node_version n shape.now) ≡ false)) }
+    ensures least { IfErr result (λ fault. IfTooLow fault (λ least. least ≡ node_version n shape.now)) }
     ensures unchanged { IfErr result (λ fault. IfTooLow fault (λ _. text.new.items ≡ text.old.items)) }
 {
-    expect_version(version, Version::of_shape(shape))?;
+    expect_version(version, Version::of_node(n, shape))?;
     put_node_line(text, version, n, shape)?;
     Ok(())
 }
@@ -32,12 +32,12 @@ pub fn put_node(
 /// Between any two lines the caller may take the bytes and clear the text.
 pub fn put_event(text: &mut Vec<u8>, version: Version, event: &Event) -> Result<(), PutFault>
     ensures line { OnOk result (text.new.items ≡ text.old.items ++ ended (event_line event.now)) }
-    ensures reported { OnOk result (includes version (what_version event.now.what) ≡ true) }
-    ensures too_low { IfErr result (λ fault. IfTooLow fault (λ _. includes version (what_version event.now.what) ≡ false)) }
-    ensures least { IfErr result (λ fault. IfTooLow fault (λ least. least ≡ what_version event.now.what)) }
+    ensures reported { OnOk result (includes version (event_version event.now) ≡ true) }
+    ensures too_low { IfErr result (λ fault. IfTooLow fault (λ _. includes version (event_version event.now) ≡ false)) }
+    ensures least { IfErr result (λ fault. IfTooLow fault (λ least. least ≡ event_version event.now)) }
     ensures unchanged { IfErr result (λ fault. IfTooLow fault (λ _. text.new.items ≡ text.old.items)) }
 {
-    expect_version(version, Version::of_what(&event.what))?;
+    expect_version(version, Version::of_event(event))?;
     put_event_line(text, event)?;
     Ok(())
 }

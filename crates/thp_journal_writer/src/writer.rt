@@ -3,13 +3,13 @@ ghost use Rattle.std.specs.Prelude.{◌≡◌, ◌+◌, [], ◌∷◌, ◌++◌,
 ghost use Rattle.std.specs.List.{flat_map, list_any, list_all};
 ghost use Rattle.std.specs.Fmt.{decimal};
 ghost use Rattle.thp_journal_writer.specs.Histories.{journal_of};
-ghost use Rattle.thp_journal_writer.specs.Journals.{journal_text as text_of, version_of, version_line, node_line, lines_of_node, underused_word, reports_underused, has_order_9, ended, is_access};
+ghost use Rattle.thp_journal_writer.specs.Journals.{are_large, has_large_caller, is_large, journal_text as text_of, version_of, version_line, node_line, lines_of_node, underused_word, reports_underused, has_order_9, ended, is_access};
 
 use crate::events::put_event_line;
 use crate::numbers::{put, put_number};
 use crate::version::Version;
 use std::alloc::{AllocError, Global};
-use thp_history::{Event, Shape, What};
+use thp_history::{Event, MAX_CALLERS, Shape, What};
 
 /// Returns the journal text of these nodes, which are numbered from 0.
 ///
@@ -33,13 +33,29 @@ pub fn journal_text(alloc: Global, nodes: &[NodeHistory<'_>]) -> Result<Vec<u8>,
 fn least_version(nodes: &[NodeHistory<'_>]) -> Version
     ensures { result ≡ version_of (map journal_of nodes.now) }
 {
-    if report_underused(nodes) {
+    if are_large(nodes) {
+        Version::Large
+    } else if report_underused(nodes) {
         Version::Underused
     } else if have_order_9(nodes) {
         Version::Plain
     } else {
         Version::Orders
     }
+}
+
+// whether there are more nodes than the versions before 4 can contain, or one of them is large
+fn are_large(nodes: &[NodeHistory<'_>]) -> bool
+    ensures { result ≡ are_large (map journal_of nodes.now) }
+{
+    nodes.len() > 8 || have_large(nodes)
+}
+
+// whether some node has more blocks or callers than the versions before 4 can contain
+fn have_large(nodes: &[NodeHistory<'_>]) -> bool
+    ensures { result ≡ list_any (λ node. is_large (journal_of node)) nodes.now }
+{
+    nodes.iter().any(|node| node.is_large())
 }
 
 // whether a node looks for underused pages, or writes to its pages were recorded
@@ -104,7 +120,7 @@ pub(crate) fn put_node_line(
     match version {
         Version::Plain => put_number(text, u64::from(shape.blocks), b'\n'),
         Version::Orders => put_order(text, shape, b'\n'),
-        Version::Underused => {
+        _ => {
             put_order(text, shape, b' ')?;
             put_underused(text, shape.underused)
         }
@@ -147,6 +163,20 @@ impl NodeHistory<'_> {
     {
         self.shape.shrinks_underused() || has_access(self.events)
     }
+
+    // whether the node has more blocks or callers than the versions before 4 can contain
+    fn is_large(&self) -> bool
+        ensures { result ≡ is_large (journal_of self.now) }
+    {
+        self.shape.blocks > Shape::MAX_BLOCKS || has_large_caller(self.events)
+    }
+}
+
+// whether some event is of a caller that the versions before 4 can't contain
+fn has_large_caller(events: &[Event]) -> bool
+    ensures { result ≡ list_any has_large_caller events.now }
+{
+    events.iter().any(|event| event.caller >= MAX_CALLERS)
 }
 
 // whether some event is a write of data or zeros

@@ -11,7 +11,7 @@ use Rattle.thp_script.specs.declared.fault.TextKind.TheVariants.{BadByte, BadNum
 use Rattle.thp_script.specs.Prelude.{number_up_to, is_empty, is_printable, ◌>>=◌, Text, words_in_line}
 use Rattle.thp_script.proofs.NumberLaws.{number_of-decimal}
 use Rattle.thp_journal_writer.specs.EventLines as written
-use Rattle.thp_journal_writer.specs.Prelude.{event_words, outcome_word, what_words, HasSmallNumbers, set_text}
+use Rattle.thp_journal_writer.specs.Prelude.{event_words, outcome_word, what_words, HasSmallNumbers, set_text, version_limits}
 use Rattle.thp_journal_reader.specs.declared.event_line.EventWord.{EventWord}
 use Rattle.thp_journal_reader.specs.declared.event_line.EventWord.TheVariants as word
 use Rattle.thp_history.specs.declared.page_call.Loss.{Loss}
@@ -49,8 +49,11 @@ pub number_back : (most n : ℕ) → n ≤ most → most < 2 ^ 64 → number_up_
 number_back most n le lt = ap (λ o. ok_or o BadNumber) (number_of-decimal most n le lt)
 
 -- a caller
-caller_back : (c : ℕ) → c < 64 → caller_number (decimal c) ≡ Ok c
-caller_back c lt = number_back 63 c (omega arith) (omega arith)
+few_callers : (v : Version) → (version_limits v).last_caller < 2 ^ 16
+few_callers x = grind arith
+
+caller_back : (v : Version) (c : ℕ) → c ≤ (version_limits v).last_caller → caller_number v (decimal c) ≡ Ok c
+caller_back v c le = number_back (version_limits v).last_caller c le (let few = few_callers v in omega arith)
 
 -- a page
 page_back : (p : ℕ) → p < 2 ^ 64 → page_number (decimal p) ≡ Ok p
@@ -77,34 +80,34 @@ ending_back o word = rw (outcome_back o) refl
 -- ---- events, by the words behind their name
 
 -- an event that names a page alone
-page_event_back : (name : PageWord) (c p : ℕ) → c < 64 → p < 2 ^ 64 → page_event name (decimal c) (decimal p ∷ []) ≡ Ok (by c (page_what name p))
+page_event_back : (v : Version) (name : PageWord) (c p : ℕ) → c ≤ (version_limits v).last_caller → p < 2 ^ 64 → page_event v name (decimal c) (decimal p ∷ []) ≡ Ok (by c (page_what name p))
 unfolding page_event
-page_event_back name c p small lt = rw (caller_back c small, page_back p lt) refl
+page_event_back v name c p small lt = rw (caller_back v c small, page_back p lt) refl
 
 -- one that names a range of its subpages
-range_event_back : (name : RangeWord) (c p first count : ℕ) → c < 64 → p < 2 ^ 64 → first < 2 ^ 16 → count < 2 ^ 16 → range_event name (decimal c) (decimal p ∷ decimal first ∷ decimal count ∷ []) ≡ Ok (by c (range_what name p first count))
+range_event_back : (v : Version) (name : RangeWord) (c p first count : ℕ) → c ≤ (version_limits v).last_caller → p < 2 ^ 64 → first < 2 ^ 16 → count < 2 ^ 16 → range_event v name (decimal c) (decimal p ∷ decimal first ∷ decimal count ∷ []) ≡ Ok (by c (range_what name p first count))
 unfolding range_event
-range_event_back name c p first count small lt low high = rw (caller_back c small, page_back p lt, range_back first low, range_back count high) refl
+range_event_back v name c p first count small lt low high = rw (caller_back v c small, page_back p lt, range_back first low, range_back count high) refl
 
 -- one that states what became of the page and what it gave back
-loss_event_back : (name : Loss) (o : Outcome) (c p : ℕ) (set : List Bool) → c < 64 → p < 2 ^ 64 → length set ≡ 512 → loss_event name (decimal c) (decimal p ∷ outcome_word o ∷ set_text set ∷ []) ≡ Ok (by c (loss_what name p o set))
+loss_event_back : (v : Version) (name : Loss) (o : Outcome) (c p : ℕ) (set : List Bool) → c ≤ (version_limits v).last_caller → p < 2 ^ 64 → length set ≡ 512 → loss_event v name (decimal c) (decimal p ∷ outcome_word o ∷ set_text set ∷ []) ≡ Ok (by c (loss_what name p o set))
 unfolding loss_event
-loss_event_back name o c p set small lt full = rw (ending_back o (set_text set), caller_back c small, page_back p lt, set_back set full) refl
+loss_event_back v name o c p set small lt full = rw (ending_back o (set_text set), caller_back v c small, page_back p lt, set_back set full) refl
 
 -- an unmap of a range
-unmap_event_back : (o : Outcome) (c p first count : ℕ) (set : List Bool) → c < 64 → p < 2 ^ 64 → first < 2 ^ 16 → count < 2 ^ 16 → length set ≡ 512 → unmap_event (decimal c) (decimal p ∷ decimal first ∷ decimal count ∷ outcome_word o ∷ set_text set ∷ []) ≡ Ok (by c (UnmapSub o p first count set))
+unmap_event_back : (v : Version) (o : Outcome) (c p first count : ℕ) (set : List Bool) → c ≤ (version_limits v).last_caller → p < 2 ^ 64 → first < 2 ^ 16 → count < 2 ^ 16 → length set ≡ 512 → unmap_event v (decimal c) (decimal p ∷ decimal first ∷ decimal count ∷ outcome_word o ∷ set_text set ∷ []) ≡ Ok (by c (UnmapSub o p first count set))
 unfolding unmap_event
-unmap_event_back o c p first count set small lt low high full = rw (ending_back o (set_text set), caller_back c small, page_back p lt, range_back first low, range_back count high, set_back set full) refl
+unmap_event_back v o c p first count set small lt low high full = rw (ending_back o (set_text set), caller_back v c small, page_back p lt, range_back first low, range_back count high, set_back set full) refl
 
 -- a split
-split_event_back : (c p : ℕ) (set : List Bool) → c < 64 → p < 2 ^ 64 → length set ≡ 512 → split_event (decimal c) (decimal p ∷ set_text set ∷ []) ≡ Ok (by c (Split p set))
+split_event_back : (v : Version) (c p : ℕ) (set : List Bool) → c ≤ (version_limits v).last_caller → p < 2 ^ 64 → length set ≡ 512 → split_event v (decimal c) (decimal p ∷ set_text set ∷ []) ≡ Ok (by c (Split p set))
 unfolding split_event
-split_event_back c p set small lt full = rw (caller_back c small, page_back p lt, set_back set full) refl
+split_event_back v c p set small lt full = rw (caller_back v c small, page_back p lt, set_back set full) refl
 
 -- a close
-close_event_back : (c : ℕ) → c < 64 → close_event (decimal c) [] ≡ Ok (by c Close)
+close_event_back : (v : Version) (c : ℕ) → c ≤ (version_limits v).last_caller → close_event v (decimal c) [] ≡ Ok (by c Close)
 unfolding close_event
-close_event_back c small = rw (caller_back c small) refl
+close_event_back v c small = rw (caller_back v c small) refl
 
 -- ---- event words
 
@@ -113,11 +116,11 @@ known : (v : Version) (name : Text) (word : EventWord) → common_word name ≡ 
 known x name word common later = grind arith
 
 -- the event by its word
-event_by_word : (v : Version) (name caller : Text) (words : List Text) (word : EventWord) (e : Event) → event_word v name ≡ Ok word → event_by word caller words ≡ Ok e → event_of v caller (name ∷ words) ≡ Ok e
-event_by_word v name caller words word e is said = ap (λ r. r >>= λ w. event_by w caller words) is ∙ said
+event_by_word : (v : Version) (name caller : Text) (words : List Text) (word : EventWord) (e : Event) → event_word v name ≡ Ok word → event_by v word caller words ≡ Ok e → event_of v caller (name ∷ words) ≡ Ok e
+event_by_word v name caller words word e is said = ap (λ r. r >>= λ w. event_by v w caller words) is ∙ said
 
 -- what happened, behind the caller's number
-what_back : (v : Version) (c : ℕ) (w : What) → c < 64 → IsOfVersion v w → HasSmallNumbers w → event_of v (decimal c) (what_words w) ≡ Ok (by c (with_block 0 w))
+what_back : (v : Version) (c : ℕ) (w : What) → c ≤ (version_limits v).last_caller → IsOfVersion v w → HasSmallNumbers w → event_of v (decimal c) (what_words w) ≡ Ok (by c (with_block 0 w))
 unfolding common_word later_word
 what_back v c x small of fit = grind (arith, event_by_word, known, page_event_back, loss_event_back, range_event_back, unmap_event_back, split_event_back, close_event_back)
 
@@ -166,13 +169,14 @@ what_plain Close fit = refl
 -- those of an event
 pub event_plain : (v : Version) (e : Event) → IsReportable v e → list_all is_plain (event_words e) ≡ true
 unfolding event_words
-event_plain v e t = let small = t.caller in and_from _ _ (decimal_plain e.caller (omega arith)) (what_plain e.what t.numbers)
+event_plain v e t = let small = t.caller in let few = few_callers v in and_from _ _ (decimal_plain e.caller (omega arith)) (what_plain e.what t.numbers)
 
 -- an event's line reports that event, but for its block
 pub event_line_back : (v : Version) (e : Event) → IsReportable v e → read.line_of v (written.event_line e) ≡ Ok (Happened (event_with 0 e))
 unfolding written.event_line event_words
 event_line_back v e t =
     let small = t.caller in
+    let few = few_callers v in
     line_of_words v (decimal e.caller) (what_words e.what) (event_plain v e t)
     ∙ line_by_number v e.caller (what_words e.what) (omega arith)
     ∙ ap (λ r. r >>= λ event. Ok (Happened event)) (what_back v e.caller e.what small t.version t.numbers)

@@ -9,14 +9,15 @@ use Rattle.thp_history.specs.declared.shape.Shape.{Shape}
 use Rattle.thp_history.specs.Prelude.{event_with, with_block, with_least_blocks, least_free, History, by}
 use Rattle.thp_script.specs.Prelude.{Fault, lines_of}
 use Rattle.thp_journal_writer.specs.EventLines as written
-use Rattle.thp_journal_writer.specs.Prelude.{event_words, Journal, version_of, lines_of_node, journal_lines, journal_text}
+use Rattle.thp_journal_writer.specs.Prelude.{event_words, Journal, version_limits, version_of, lines_of_node, journal_lines, journal_text}
 use Rattle.thp_journal_writer.specs.Journals as journal
 use Rattle.thp_journal_reader.specs.declared.line.Line.{Line}
 use Rattle.thp_journal_reader.specs.declared.line.Line.TheVariants.{End}
 use Rattle.thp_journal_reader.specs.declared.line.Place.TheVariants.{Start}
 use Rattle.thp_journal_writer.specs.declared.version.Version.{Version}
 use Rattle.thp_journal_reader.specs.Journals as reading
-use Rattle.thp_journal_reader.specs.Prelude.{node_journal, nodes_of, journals_with, journals_of, journals_within}
+use Rattle.thp_journal_reader.specs.Prelude.{accepts_node, accepts_version, node_journal, nodes_of, journals_accepted, journals_with}
+use Rattle.thp_journal_reader.specs.declared.line.Accepted.{Accepted}
 use Rattle.thp_laws.specs.Reportable.{IsReportable, IsReportedJournal}
 use Rattle.thp_laws.specs.ReadBack.{nodes_from}
 use Rattle.thp_laws.proofs.EventsBack.{event_plain}
@@ -98,12 +99,12 @@ events_whole v [] h = refl
 events_whole v (e ∷ events) h = and_from _ _ (event_whole v e h.0) (events_whole v events h.1)
 
 -- nor have those of a node
-node_whole : (v : Version) (n : ℕ) (j : Journal) → n < 8 → IsReportedJournal v j → list_all (is_without 10) (lines_of_node v n j) ≡ true
+node_whole : (v : Version) (n : ℕ) (j : Journal) → n ≤ (version_limits v).last_node → IsReportedJournal v j → list_all (is_without 10) (lines_of_node v n j) ≡ true
 unfolding lines_of_node journal.node_line
 node_whole v n j few t = and_from _ _ (line_whole (journal.node_words v n j.0) (node_plain v n j.0 few t.shape)) (events_whole v j.1 t.events)
 
 -- nor those of nodes
-nodes_whole : (v : Version) (n : ℕ) (js : List Journal) → n + length js ≤ 8 → AllByRecursion (IsReportedJournal v) js → list_all (is_without 10) (journal.journal_lines_from v n js) ≡ true
+nodes_whole : (v : Version) (n : ℕ) (js : List Journal) → n + length js ≤ (version_limits v).last_node + 1 → AllByRecursion (IsReportedJournal v) js → list_all (is_without 10) (journal.journal_lines_from v n js) ≡ true
 nodes_whole v n [] few h = refl
 nodes_whole v n (j ∷ js) few h = all_append (is_without 10) (lines_of_node v n j) (journal.journal_lines_from v (n + 1) js) (node_whole v n j (omega arith) h.0) (nodes_whole v (n + 1) js (omega arith) h.1)
 
@@ -112,7 +113,7 @@ version_whole : (v : Version) → is_without 10 (journal.version_line v) ≡ tru
 version_whole v = line_whole (version_words v) (version_plain v)
 
 -- a text's lines are those it was written of, and nothing stands behind them
-text_lines : (js : List Journal) → length js ≤ 8 → AllByRecursion (IsReportedJournal ((version_of js))) js → lines_of (journal_text js) ≡ journal_lines js ++ [] ∷ []
+text_lines : (js : List Journal) → length js ≤ (version_limits (version_of js)).last_node + 1 → AllByRecursion (IsReportedJournal ((version_of js))) js → lines_of (journal_text js) ≡ journal_lines js ++ [] ∷ []
 unfolding journal_text journal_lines
 text_lines js few h =
     let v : Version = version_of js in
@@ -125,11 +126,11 @@ read : {A : Type 0} → A → Result A Fault
 read x = Ok x
 
 -- the journals that a text's lines can state are read back, but for their blocks
-pub text_back : (js : List Journal) → 0 < length js → length js ≤ 8 → AllByRecursion (IsReportedJournal ((version_of js))) js → length (journal_text js) ≤ 16777216 → journals_of (journal_text js) ≡ Ok (record { nodes = nodes_from 2 js })
-unfolding journals_within journals_with journal_lines reported read
-text_back js some few h short =
+pub text_back : (w : Accepted) (most : ℕ) (js : List Journal) → 0 < length js → length js ≤ (version_limits (version_of js)).last_node + 1 → accepts_version w (version_of js) ≡ true → ((k : ℕ) (s : Shape) → accepts_node w k s ≡ true) → AllByRecursion (IsReportedJournal ((version_of js))) js → length (journal_text js) ≤ most → journals_accepted w most (journal_text js) ≡ Ok (record { nodes = nodes_from 2 js })
+unfolding journals_accepted journals_with journal_lines reported read
+text_back w most js some few known any h short =
     let v : Version = version_of js in
-    let lines : reading.lines_from 1 Start (lines_of (journal_text js)) ≡ Ok (reported v js) = ap (reading.lines_from 1 Start) (text_lines js few h) ∙ read_all 1 v Start (journal_lines js) (reported v js) (all_say v js some few h) (all_after v js) in
-    let fits : nat_lt 16777216 (length (journal_text js)) ≡ false = le-ltb _ _ short in
+    let lines : reading.lines_from 1 (Start w) (lines_of (journal_text js)) ≡ Ok (reported v js) = ap (reading.lines_from 1 (Start w)) (text_lines js few h) ∙ read_all 1 w v (Start w) (journal_lines js) (reported v js) (all_say w v js some few known any h) (all_after w v js) in
+    let fits : nat_lt most (length (journal_text js)) ≡ false = le-ltb _ _ short in
     let nodes : nodes_of 1 (reported v js) ≡ nodes_from 2 js = nodes_back 2 0 js in
     rw (fits, lines) (ap (λ ns. read (record { nodes = ns })) nodes)

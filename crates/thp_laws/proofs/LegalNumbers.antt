@@ -7,7 +7,7 @@ use Rattle.thp_history.specs.declared.events.Event.{Event}
 use Rattle.thp_history.specs.declared.events.What.{What}
 use Rattle.thp_history.specs.declared.events.What.TheVariants.{Alloc, MapWhole, UnmapWhole, MapSub, UnmapSub, SplitPmd, Pin, Unpin, Write, Zero, Taken, Split, Pinned, Used, Back, Dropped, Close}
 use Rattle.thp_history.specs.declared.shape.Shape.{Shape}
-use Rattle.thp_history.specs.Prelude.{allocations, is_alloc, is_live, released, History, count_of, FitsBy, IsLegal, acts_on, IsShape, subpages, length-set_of}
+use Rattle.thp_history.specs.Prelude.{allocations, is_alloc, is_live, released, History, count_of, FitsBy, IsLegal, acts_on, IsShapeWithin, subpages, length-set_of}
 use Rattle.thp_history.proofs.Alive.{legal_grown}
 use Rattle.thp_history.proofs.Allowed.{allowed_map_sub, allowed_unmap_sub, allowed_write, allowed_zero}
 use Rattle.thp_history.proofs.FlightLaws.{left_alone}
@@ -26,7 +26,7 @@ fewer_before : (h : History) (k : ℕ) → allocations (take k h) ≤ length h
 fewer_before h k = let few = few_pages (take k h) in let short : length (take k h) ≤ length h = omega (arith, length-take k h) in omega arith
 
 -- a range of a page isn't beyond 512
-pub small_range : (s : Shape) (first count : ℕ) → IsShape s → (nat_eq count 0 || nat_lt (subpages s) (first + count)) ≡ false → (first < 2 ^ 16) × (count < 2 ^ 16)
+pub small_range : {most : ℕ} (s : Shape) (first count : ℕ) → IsShapeWithin most s → (nat_eq count 0 || nat_lt (subpages s) (first + count)) ≡ false → (first < 2 ^ 16) × (count < 2 ^ 16)
 small_range s first count is fits = grind (arith, ltb-false, or_parts, nat_eq, nat_lt, few_subpages)
 
 -- a set that an event gives back has 512 truths
@@ -34,7 +34,7 @@ full_set : (s : Shape) (h k : History) (p : ℕ) (set : List Bool) → set ≡ r
 full_set s h k p set is = ap length is ∙ length-set_of _
 
 -- what happened, where the pages that it acts on have small numbers
-numbers_fit : (s : Shape) (h k : History) (c : ℕ) (w : What) → IsShape s → FitsBy s h k c w → allocations h < 2 ^ 64 → ((p : ℕ) → acts_on p w ≡ true → p < 2 ^ 64) → HasSmallNumbers w
+numbers_fit : {most : ℕ} (s : Shape) (h k : History) (c : ℕ) (w : What) → IsShapeWithin most s → FitsBy s h k c w → allocations h < 2 ^ 64 → ((p : ℕ) → acts_on p w ≡ true → p < 2 ^ 64) → HasSmallNumbers w
 numbers_fit s h k c (Alloc p b) is fits few small = let number = fits.number in omega arith
 numbers_fit s h k c (MapWhole p) is fits few small = small p (eq-eqb p p refl)
 numbers_fit s h k c (UnmapWhole o p set) is fits few small = (small p (eq-eqb p p refl), full_set s h k p set fits.1.set_is)
@@ -54,7 +54,7 @@ numbers_fit s h k c (Dropped p) is fits few small = small p (eq-eqb p p refl)
 numbers_fit s h k c Close is fits few small = tt
 
 -- each event of a legal history of fewer than 2^64 events has small numbers
-pub legal_numbers : (s : Shape) (h : History) → IsShape s → IsLegal s h → length h < 2 ^ 64 → (k : ℕ) (e : Event) → slice_get h k ≡ Some e → HasSmallNumbers e.what
+pub legal_numbers : {most : ℕ} (s : Shape) (h : History) → IsShapeWithin most s → IsLegal s h → length h < 2 ^ 64 → (k : ℕ) (e : Event) → slice_get h k ≡ Some e → HasSmallNumbers e.what
 legal_numbers s h is legal few k e at =
     let before : allocations (take k h) ≤ length h = fewer_before h k in
     numbers_fit s (take k h) (take k h ++ e ∷ []) e.caller e.what is (legal.each k e at) (omega arith)

@@ -11,14 +11,14 @@ use Rattle.thp_history.specs.Prelude.{SameButBlocks, event_with, with_block, wit
 use Rattle.thp_history.proofs.Alike.{Alike, Blind, alike, count_alike, held_alike}
 use Rattle.thp_history.proofs.LeastBlocks.{least_same, without_blocks_push}
 use Rattle.thp_history.proofs.SumsBelow.{sum_below-ext}
-use Rattle.thp_script.specs.Prelude.{Fault}
+use Rattle.thp_script.specs.Prelude.{Fault, max_counted}
 use Rattle.thp_journal_writer.specs.Prelude.{Journal}
 use Rattle.thp_journal_reader.specs.declared.journals.ReadJournals.{ReadJournals}
 use Rattle.thp_journal_reader.specs.declared.journals.ReadNode.{ReadNode}
-use Rattle.thp_journal_reader.specs.Prelude.{journals_of, node_journal}
+use Rattle.thp_journal_reader.specs.Prelude.{journals_within, node_journal}
 use Rattle.thp_laws.specs.ReadBack.{nodes_from, with_first_lines}
 use Rattle.thp_laws.specs.SameTotals.{IsSameJournal, HaveSameTotals, OneTextIsOfOneRun, OneTextHasOneTotal}
-use Rattle.thp_laws.proofs.ReadingBack.{all_read_back}
+use Rattle.thp_laws.proofs.ReadingBack.{long_read_back, long_reportable}
 
 -- ---- totals don't look at blocks
 
@@ -160,8 +160,8 @@ same_nodes line (j ∷ js) (k ∷ ks) e =
 -- journals with one text are the same but for blocks
 pub one_run : OneTextIsOfOneRun
 unfolding journals_read
-one_run js ks ours theirs same =
-    let read : journals_read (with_first_lines js) ≡ journals_read (with_first_lines ks) = sym (all_read_back js ours) ∙ ap journals_of same ∙ all_read_back ks theirs in
+one_run v most js ks le ours theirs same =
+    let read : journals_read (with_first_lines js) ≡ journals_read (with_first_lines ks) = sym (long_read_back js (long_reportable v most js le ours)) ∙ ap (journals_within max_counted) same ∙ long_read_back ks (long_reportable v most ks le theirs) in
     let nodes : nodes_from 2 js ≡ nodes_from 2 ks = ap (λ r. (result_unwrap_or r (with_first_lines js)).nodes) read in
     same_nodes 2 js ks nodes
 
@@ -174,4 +174,4 @@ each_same (j ∷ js) (k ∷ ks) h = (totals_of_same j k h.0, each_same js ks h.1
 
 -- and have the same totals
 pub one_total : OneTextHasOneTotal
-one_total js ks ours theirs same = each_same js ks (one_run js ks ours theirs same)
+one_total v most js ks le ours theirs same = each_same js ks (one_run v most js ks le ours theirs same)

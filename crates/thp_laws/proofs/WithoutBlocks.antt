@@ -1,15 +1,15 @@
 -- No line of a journal text contains a block.
-use Rattle.std.proofs.Common.{◌≡◌, ◌==◌, ◌+◌, ℕ, cond, ◌&&◌, ◌||◌, List, [], ◌∷◌, ◌++◌, map, refl, ap, ap₂, sym, ◌∙◌, codes, is_some, decimal}
+use Rattle.std.proofs.Common.{◌≡◌, ◌==◌, ◌+◌, ℕ, suc, nat_lt, length, cond, ◌&&◌, ◌||◌, List, [], ◌∷◌, ◌++◌, map, refl, ap, ap₂, sym, ◌∙◌, codes, is_some, decimal}
 use Rattle.std.specs.List.{AllZip, flat_map, list_all, list_any}
 use Rattle.thp_history.specs.declared.events.Event.{Event}
 use Rattle.thp_history.specs.declared.events.What.{What}
 use Rattle.thp_history.specs.declared.events.What.TheVariants.{Alloc}
 use Rattle.thp_history.specs.declared.shape.Shape.{Shape}
-use Rattle.thp_history.specs.Prelude.{event_with, with_block, without_blocks, History}
+use Rattle.thp_history.specs.Prelude.{event_with, max_blocks, with_block, without_blocks, History}
 use Rattle.thp_history.proofs.Alike.{Blind, some_alike}
 use Rattle.thp_journal_writer.specs.declared.version.Version.{Version}
 use Rattle.thp_journal_writer.specs.declared.version.Version.TheVariants as writing
-use Rattle.thp_journal_writer.specs.Prelude.{event_line, event_words, what_words, spaced_line, Journal, has_order_9, is_access, journal_lines, journal_text, lines_of_node, reports_underused, version_of}
+use Rattle.thp_journal_writer.specs.Prelude.{event_line, event_words, what_words, spaced_line, Journal, are_large, has_large_caller, is_large, has_order_9, is_access, journal_lines, journal_text, lines_of_node, reports_underused, version_of}
 use Rattle.thp_journal_writer.specs.Journals as journal
 use Rattle.thp_laws.specs.SameTotals.{IsSameJournal, NoBlockShows}
 
@@ -40,9 +40,22 @@ access_blind w = refl
 
 -- the journals have one text, version and lines
 record AreOneText (js ks : List Journal) : Type 0 where
+  count : length js ≡ length ks
+  large : list_any is_large js ≡ list_any is_large ks
   underused : list_any reports_underused js ≡ list_any reports_underused ks
   orders : list_all has_order_9 js ≡ list_all has_order_9 ks
   lines : (v : Version) (n : ℕ) → journal.journal_lines_from v n js ≡ journal.journal_lines_from v n ks
+
+-- a caller has no block
+callers_bare : (h : History) → list_any has_large_caller (without_blocks h) ≡ list_any has_large_caller h
+unfolding without_blocks
+callers_bare [] = refl
+callers_bare (e ∷ h) = ap (λ b. has_large_caller e || b) (callers_bare h)
+
+-- both are large or neither is
+large_alike : (j k : Journal) → IsSameJournal j k → is_large j ≡ is_large k
+unfolding is_large
+large_alike j k same = ap₂ (λ a b. a || b) (ap (λ (s : Shape). nat_lt max_blocks s.blocks) same.shape) (sym (callers_bare j.1) ∙ ap (list_any has_large_caller) same.events ∙ callers_bare k.1)
 
 -- both need version 3 or neither does
 underused_alike : (j k : Journal) → IsSameJournal j k → reports_underused j ≡ reports_underused k
@@ -61,21 +74,27 @@ node_alike v n j k same =
 
 -- journals that are the same but for blocks
 each_alike : (js ks : List Journal) → AllZip IsSameJournal js ks → AreOneText js ks
-each_alike [] [] h = record { underused = refl; orders = refl; lines = λ v n. refl }
+each_alike [] [] h = record { count = refl; large = refl; underused = refl; orders = refl; lines = λ v n. refl }
 each_alike [] (k ∷ ks) h = absurd h
 each_alike (j ∷ js) [] h = absurd h
 each_alike (j ∷ js) (k ∷ ks) h =
     let rest : AreOneText js ks = each_alike js ks h.1 in
     record {
+      count = ap suc rest.count;
+      large = ap₂ (λ a b. a || b) (large_alike j k h.0) rest.large;
       underused = ap₂ (λ a b. a || b) (underused_alike j k h.0) rest.underused;
       orders = ap₂ (λ a b. a && b) (order_alike j k h.0) rest.orders;
       lines = λ v n. ap₂ (λ xs ys. xs ++ ys) (node_alike v n j k h.0) (rest.lines v (n + 1));
     }
 
 -- their version
+large_both : (js ks : List Journal) → AreOneText js ks → are_large js ≡ are_large ks
+unfolding are_large
+large_both js ks one = ap₂ (λ n b. nat_lt 8 n || b) one.count one.large
+
 version_alike : (js ks : List Journal) → AreOneText js ks → version_of js ≡ version_of ks
 unfolding version_of
-version_alike js ks one = ap₂ (λ a b. cond a writing.Underused (cond b writing.Plain writing.Orders)) one.underused one.orders
+version_alike js ks one = ap₂ (λ l v. cond l writing.Large v) (large_both js ks one) (ap₂ (λ a b. cond a writing.Underused (cond b writing.Plain writing.Orders)) one.underused one.orders)
 
 -- what is the same but for blocks has one text
 pub one_text : NoBlockShows

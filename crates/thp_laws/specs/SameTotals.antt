@@ -1,9 +1,11 @@
 -- Journals with the same text are equal except for their blocks, and have the same totals.
-use Rattle.std.specs.Prelude.{◌≡◌, List, length}
+use Rattle.std.specs.Prelude.{◌≡◌, ◌≤◌, ℕ, List, length}
 use Rattle.std.specs.List.{AllZip}
 use Rattle.thp_history.specs.Prelude.{SameButBlocks, thp_split_page, thp_split_page_failed, thp_deferred_split_page, thp_split_pmd, thp_underused_split_page, allocations, frames_given, frames_held, queue}
+use Rattle.thp_script.specs.Prelude.{max_counted}
 use Rattle.thp_journal_writer.specs.Prelude.{Journal, journal_text}
-use Rattle.thp_laws.specs.ReadBack.{AreReportable}
+use Rattle.thp_journal_writer.specs.declared.version.Version.{Version}
+use Rattle.thp_laws.specs.ReadBack.{AreReportableIn}
 
 -- the same node, with the same events except for their blocks
 pub record IsSameJournal (j k : Journal) : Type 0 where
@@ -30,9 +32,9 @@ NoBlockShows = (journals others : List Journal) → AllZip IsSameJournal journal
 -- journals with the same text are equal except for blocks
 abbrev pub OneTextIsOfOneRun : Type 0
 OneTextIsOfOneRun =
-    (journals others : List Journal) → AreReportable journals → AreReportable others → journal_text journals ≡ journal_text others → AllZip IsSameJournal journals others
+    (v : Version) (most : ℕ) (journals others : List Journal) → most ≤ max_counted → AreReportableIn v most journals → AreReportableIn v most others → journal_text journals ≡ journal_text others → AllZip IsSameJournal journals others
 
 -- and have the same totals
 abbrev pub OneTextHasOneTotal : Type 0
 OneTextHasOneTotal =
-    (journals others : List Journal) → AreReportable journals → AreReportable others → journal_text journals ≡ journal_text others → AllZip HaveSameTotals journals others
+    (v : Version) (most : ℕ) (journals others : List Journal) → most ≤ max_counted → AreReportableIn v most journals → AreReportableIn v most others → journal_text journals ≡ journal_text others → AllZip HaveSameTotals journals others

@@ -5,4 +5,5 @@ pub mod Neighbours
 pub mod AccessChain
 pub mod Edits
 pub mod LinkVecs
+pub mod Reserved
 pub mod Prelude

@@ -1,9 +1,10 @@
 //! A table that has nothing but its links.
-ghost use Rattle.std.specs.Prelude.{◌≡◌, ◌<◌, ◌^◌, ⊤, length, vec_len, slice_get, All, IfOk, IfSome};
+ghost use Rattle.std.specs.Prelude.{◌≡◌, ◌<◌, ⊤, length, slice_get, All, IfOk, IfSome};
 ghost use Rattle.thp_links.specs.LinkVecs.{IsAlone};
 
 use crate::access_count::AccessCount;
 use crate::link::{Link, NIL};
+use crate::reserved_vec::ReservedVec;
 use crate::table::LinkTable;
 use std::alloc::{AllocError, Global};
 use std::marker::Model;
@@ -11,10 +12,9 @@ use std::marker::Model;
 /// Link pairs for the numbers below a length, and nothing else.
 #[derive(Drop)]
 pub struct LinkVec {
-    pairs: Vec<Link>,
+    pairs: ReservedVec<Link>,
     // has no bytes
     accesses: AccessCount,
-    ghost small: { vec_len pairs < 2 ^ 32 },
 }
 
 impl Model for LinkVec {
@@ -22,11 +22,12 @@ impl Model for LinkVec {
 
     ghost Value = { LinkVecState };
 
-    ghost view = { λ t. record { pairs = t.pairs.items; accesses = t.accesses } };
+    ghost view = { λ t. record { pairs = t.pairs; accesses = t.accesses } };
 }
 
 impl LinkVec {
-    /// Makes a table of so many indices, none of which is linked. Fails if the memory for it is refused.
+    /// Creates a table of so many indices, none of which is linked. Fails if memory for them can't be reserved; it is taken up to the
+    /// greatest index that was linked.
     pub fn new(alloc: Global, len: u32) -> Result<LinkVec, AllocError>
         ensures length { IfOk result (λ t. length t.pairs ≡ len) }
         ensures alone { IfOk result (λ t. All IsAlone t.pairs) }
@@ -36,7 +37,7 @@ impl LinkVec {
             next: NIL,
         };
         Ok(LinkVec {
-            pairs: vec![in alloc; alone; len as usize]?,
+            pairs: ReservedVec::new(alloc, len, alone)?,
             accesses: AccessCount::new(),
         })
     }
@@ -46,7 +47,7 @@ impl LinkVec {
         requires { index < length self.now.pairs }
         ensures { IfSome (slice_get self.now.pairs index) (λ l. result ≡ l.next) }
     {
-        self.pairs[index as usize].next
+        self.pairs.at(index).next
     }
 }
 
@@ -58,17 +59,17 @@ impl LinkTable for LinkVec {
     ghost same_rest = { λ _ _. ⊤ };
 
     fn len(&self) -> u32 {
-        self.pairs.len() as u32
+        self.pairs.len()
     }
 
     fn link(&mut self, i: u32) -> Link {
         self.accesses.step();
-        self.pairs[i as usize]
+        self.pairs.at(i)
     }
 
     fn set_link(&mut self, i: u32, link: Link) {
         self.accesses.step();
-        self.pairs[i as usize] = link;
+        self.pairs.set(i, link);
     }
 
     ghost same_rest_refl = { λ t. tt };

@@ -13,6 +13,8 @@ pub mod Starting
 pub mod Walking
 pub mod Looking
 pub mod FreeWords
+pub mod Summing
+pub mod FreeSets
 pub mod Least
 pub mod Losing
 pub mod Emptying

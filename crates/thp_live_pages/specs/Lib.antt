@@ -5,5 +5,6 @@ pub mod FreeChains
 pub mod Homes
 pub mod Holding
 pub mod Flying
+pub mod FreeSets
 pub mod BlockHolders
 pub mod Prelude

@@ -3,6 +3,8 @@ pub use Rattle.thp_live_pages.specs.BlockHolders.{AreFree}
 unfoldable pub use Rattle.thp_live_pages.specs.BlockHolders.{least_of}
 pub use Rattle.thp_live_pages.specs.Flying.{IsFlyingAt, IsUnpinnedAt}
 pub use Rattle.thp_live_pages.specs.FreeChains.{IsFreeChain, Relinks}
+pub use Rattle.thp_live_pages.specs.FreeSets.{FreeSet, IsFreedBelow, Sums}
+unfoldable pub use Rattle.thp_live_pages.specs.FreeSets.{has_block}
 pub use Rattle.thp_live_pages.specs.Holding.{Fills, HasBlock, IsNode, IsSlot}
 pub use Rattle.thp_live_pages.specs.Homes.{LiesWherePlaced, block_after, block_by, flier, stands_by}
 unfoldable pub use Rattle.thp_live_pages.specs.Homes.{block_of, standing_of}

@@ -1,71 +1,97 @@
 //! The free blocks of a node.
-ghost use Rattle.std.specs.Prelude.{◌≡◌, ◌<◌, ◌≤◌, ◌*◌, ◌/◌, ◌^◌, ℕ, cond, nat_eq, nat_lt, true, false, length, IfOk, IfSome, IfNone};
-ghost use Rattle.thp_history.specs.Prelude.{in_words};
+ghost use Rattle.std.specs.Prelude.{◌≡◌, ◌<◌, ◌≤◌, ◌&&◌, ℕ, cond, nat_eq, nat_lt, not, true, false, IfOk, IfSome, IfNone};
+ghost use Rattle.thp_live_pages.specs.FreeSets.{has_block};
 
+use crate::least_set::LeastSet;
+use crate::summed_set::SummedSet;
+use crate::word_set::WordSet;
 use std::alloc::{AllocError, Global};
 use std::marker::Model;
 
-/// A set of blocks. Contracts see its words: block b is bit b % 64 of word b / 64.
+/// A set of a node's blocks. Its least block is found in constant time, and it takes memory up to the greatest block that was ever
+/// removed. Contracts see the number of blocks, and whether a block is in the set.
 #[derive(Drop)]
 pub struct FreeBlocks {
-    words: Vec<u64>,
+    count: u32,
+    // blocks from here on were never removed
+    used: u32,
+    // the blocks below that are in the set
+    freed: SummedSet<SummedSet<WordSet>>,
 }
 
 impl Model for FreeBlocks {
-    ghost use Rattle.std.specs.Prelude.{ℕ, List, length, ◌≤◌, ◌^◌};
+    ghost use Rattle.std.specs.Prelude.{◌*◌, length};
+    ghost use Rattle.thp_live_pages.specs.FreeSets.{FreeSet, IsFreedBelow};
 
-    ghost Value = { List ℕ };
+    ghost Value = { FreeSet };
 
-    ghost view = { λ f. f.words.items };
+    ghost view = { λ f. record { blocks = f.count; used = f.used; freed = f.freed } };
 
-    ghost invariant = { λ f. length f.words.items ≤ 2 ^ 26 };
+    ghost invariant = { λ f. IsFreedBelow (record { blocks = f.count; used = f.used; freed = f.freed }) };
 }
 
 impl FreeBlocks {
-    /// Creates the set of all blocks below `count`. Fails if its memory can't be allocated.
+    /// Creates the set of all blocks below `count`. Fails if its memory can't be reserved.
     pub fn new(alloc: Global, count: u32) -> Result<FreeBlocks, AllocError>
-        ensures all { IfOk result (λ f. (b : ℕ) → in_words f b ≡ nat_lt b count) }
-        ensures size { IfOk result (λ f. count ≤ 64 * length f) }
+        ensures all { IfOk result (λ f. (b : ℕ) → has_block f b ≡ nat_lt b count) }
+        ensures blocks { IfOk result (λ f. f.blocks ≡ count) }
     {
-        let words = vec![in alloc; 0; count.div_ceil(64) as usize]?;
-        let mut free = FreeBlocks { words };
-        for block in 0..count {
-            free.insert(block);
-        }
-        Ok(free)
+        Ok(FreeBlocks {
+            count,
+            used: 0,
+            freed: SummedSet::new(alloc, count)?,
+        })
     }
 
     /// Inserts a block into the set.
     pub fn insert(&mut self, block: u32)
-        requires { block < 64 * length self.old }
-        ensures with_it { (b : ℕ) → in_words self.new b ≡ cond (nat_eq b block) true (in_words self.old b) }
-        ensures size { length self.new ≡ length self.old }
+        requires { block < self.old.blocks }
+        ensures with_it { (b : ℕ) → has_block self.new b ≡ cond (nat_eq b block) true (has_block self.old b) }
+        ensures blocks { self.new.blocks ≡ self.old.blocks }
     {
-        let at = block as usize / 64;
-        self.words[at] |= 1u64 << (block % 64);
+        if block < self.used {
+            self.freed.insert(block);
+        }
     }
 
     /// Removes a block from the set.
     pub fn remove(&mut self, block: u32)
-        requires { block < 64 * length self.old }
-        ensures without_it { (b : ℕ) → in_words self.new b ≡ cond (nat_eq b block) false (in_words self.old b) }
-        ensures size { length self.new ≡ length self.old }
+        requires { block < self.old.blocks }
+        ensures without_it { (b : ℕ) → has_block self.new b ≡ cond (nat_eq b block) false (has_block self.old b) }
+        ensures blocks { self.new.blocks ≡ self.old.blocks }
     {
-        let at = block as usize / 64;
-        self.words[at] &= !(1u64 << (block % 64));
+        if block < self.used {
+            self.freed.remove(block);
+        } else {
+            insert_between(&mut self.freed, self.used, block);
+            self.used = block + 1;
+        }
     }
 
     /// Returns the least block of the set, if any.
     pub fn least(&self) -> Option<u32>
-        ensures there { IfSome result (λ b. in_words self.now b ≡ true) }
-        ensures least { IfSome result (λ b. (k : ℕ) → k < b → in_words self.now k ≡ false) }
-        ensures none { IfNone result ((k : ℕ) → in_words self.now k ≡ false) }
+        ensures there { IfSome result (λ b. has_block self.now b ≡ true) }
+        ensures least { IfSome result (λ b. (k : ℕ) → k < b → has_block self.now k ≡ false) }
+        ensures none { IfNone result ((k : ℕ) → has_block self.now k ≡ false) }
     {
-        for (at, word) in self.words.iter().enumerate() {
-            if *word != 0 {
-                return Some(64 * at as u32 + word.trailing_zeros());
-            }
+        if let Some(block) = self.freed.least() {
+            return Some(block);
         }
-        None
+        if self.used == self.count {
+            return None;
+        }
+        Some(self.used)
+    }
+}
+
+// Inserts the numbers from `first` to `end` - 1.
+fn insert_between<S: LeastSet>(set: &mut S, first: u32, end: u32)
+    requires room { end ≤ S.room set.old }
+    requires order { first ≤ end }
+    ensures with_them { (k : ℕ) → S.has set.new k ≡ cond (not (nat_lt k first) && nat_lt k end) true (S.has set.old k) }
+    ensures room { S.room set.new ≡ S.room set.old }
+{
+    for i in first..end {
+        set.insert(i);
     }
 }

@@ -1,7 +1,7 @@
 -- The laws of every legal history, at one journal.
 use Rattle.std.proofs.Common.{◌≡◌, ◌++◌, subst}
 use Rattle.thp_history.specs.declared.shape.Shape.{Shape}
-use Rattle.thp_history.specs.Prelude.{History, IsLegal, takes_of, IsShape}
+use Rattle.thp_history.specs.Prelude.{History, IsLegal, takes_of, IsNodeShape}
 use Rattle.thp_history.proofs.Alive.{live_holds}
 use Rattle.thp_history.proofs.BlockPages.{pages_apart}
 use Rattle.thp_history.proofs.EachFrame.{each_frame_once}
@@ -43,11 +43,11 @@ module _ (s : Shape) (h : History) (legal : IsLegal s h) where
   unfolding NothingEnters
   nothing_enters = none_enters s h legal
 
-  pub has_frames_once : IsShape s → HasFramesOnce s h
+  pub has_frames_once : IsNodeShape s → HasFramesOnce s h
   unfolding HasFramesOnce
   has_frames_once = λ is. each_frame_once s h is.most_order legal
 
-  pub keeps_frames : IsShape s → KeepsFrames s h
+  pub keeps_frames : IsNodeShape s → KeepsFrames s h
   unfolding KeepsFrames
   keeps_frames = λ is. frames_kept s h is.most_order legal
 

@@ -1,11 +1,11 @@
 -- What a journal keeps: with no event, and with one more.
-use Rattle.std.proofs.Common.{◌≡◌, ℕ, zero, suc, ◌+◌, ◌^◌, ◌<◌, ◌≤◌, Bool, false, ◌||◌, List, [], ◌∷◌, ◌++◌, length, replicate, Option, None, IfSome, slice_index_or, refl, ap, sym, ◌∙◌, arith}
+use Rattle.std.proofs.Common.{◌≡◌, ℕ, ◌+◌, ◌^◌, ◌<◌, ◌≤◌, Bool, false, ◌||◌, List, [], ◌∷◌, ◌++◌, length, Option, None, IfSome, slice_index_or, refl, ap, sym, ◌∙◌, arith}
 use Rattle.std.specs.Int.{from_bool}
 use Rattle.thp_history.specs.declared.events.Event.{Event}
 use Rattle.thp_history.specs.declared.events.What.{What}
 use Rattle.thp_history.specs.declared.events.Outcome.{Outcome}
 use Rattle.thp_history.specs.declared.page_call.Loss.{Loss}
-use Rattle.thp_history.specs.Prelude.{loss_what, History, by, count_of, some_event, IsShape, is_alloc, closes, flights, flight, IsLegal, Fits, IsContext, with_loss}
+use Rattle.thp_history.specs.Prelude.{loss_what, History, by, count_of, some_event, IsNodeShape, is_alloc, closes, flights, flight, IsLegal, Fits, IsContext, with_loss}
 use Rattle.thp_history.specs.declared.shape.Shape.{Shape}
 use Rattle.thp_history.specs.declared.tally.SplitContext.{SplitContext}
 use Rattle.thp_history.proofs.LegalSteps.{legal_none, legal_push}
@@ -14,27 +14,22 @@ use Rattle.thp_node.specs.Prelude.{NodeTally, IsJournal, leaves_of, one_for, Can
 use Rattle.thp_node.proofs.JournalLemmas.{flight_moves, leaves_one}
 use Rattle.thp_history.proofs.Totals.{few_events, adds_none, has_room, adds_push, adds_loss}
 
-zeros : (n c : ℕ) → slice_index_or {A = ℕ} (replicate n 0) c 0 ≡ 0
-zeros zero c = refl
-zeros (suc n) zero = refl
-zeros (suc n) (suc c) = zeros n c
-
 -- with no event all numbers are 0
-pub journal_none : (shape : Shape) → IsShape shape →
+pub journal_none : (shape : Shape) (flying : List ℕ) → IsNodeShape shape → ((c : ℕ) → slice_index_or flying c 0 ≡ 0) →
     IsJournal shape []
     (record {
       next = 0;
       closed = false;
-      flying = replicate 64 0;
+      flying = flying;
       sums = record { frames_given = 0; counters = record { split_page = 0; split_page_failed = 0; deferred_split_page = 0; underused_split_page = 0; split_pmd = 0 } };
     })
 unfolding count_of some_event flights
-journal_none shape s = record {
+journal_none shape flying s zeros = record {
   has_shape = s;
   legal = legal_none shape;
   next_is = refl;
   closed_is = refl;
-  flying_are = zeros 64;
+  flying_are = zeros;
   adds_up = adds_none shape;
 }
 

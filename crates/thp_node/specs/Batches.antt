@@ -1,6 +1,6 @@
 -- The view that contracts have of a batch, the results of a try and a put back, and the counts of a scan.
 use Rattle.std.specs.Prelude.{◌≡◌, ◌≢◌, ℕ, ◌≤◌, ◌<◌, length, count_by, nat_eq, if◌then◌else◌, Bool, true, false, List, [], ◌++◌, drop, Option, Some, None, All}
-use Rattle.thp_history.specs.Prelude.{max_batch, max_callers, History, count_of, pins, is_worth_split, is_dropped as drops, flight, has_page, still_flying, goes_back}
+use Rattle.thp_history.specs.Prelude.{max_batch, max_node_callers, History, count_of, pins, is_worth_split, is_dropped as drops, flight, has_page, still_flying, goes_back}
 use Rattle.thp_history.specs.declared.events.Event.{Event}
 use Rattle.thp_history.specs.declared.events.What.{What}
 use Rattle.thp_history.specs.declared.events.What.TheVariants.{Taken, Split as SplitOf, Pinned as PinnedOf, Used as UsedOf, Back, Dropped}
@@ -26,7 +26,7 @@ rest b = drop b.place b.pages
 
 -- the invariant of a batch
 pub record IsBatch (b : BatchState) : Type 0 where
-  pub caller : b.caller < max_callers
+  pub caller : b.caller < max_node_callers
   pub few : length b.pages ≤ max_batch
   pub inside : b.place ≤ length b.pages
 

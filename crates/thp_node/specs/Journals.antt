@@ -6,7 +6,7 @@ use Rattle.thp_history.specs.declared.events.Outcome.TheVariants.{Freed}
 use Rattle.thp_history.specs.declared.events.What.{What}
 use Rattle.thp_history.specs.declared.events.What.TheVariants.{UnmapWhole, UnmapSub, Unpin, Taken, Split, Used, Back, Dropped}
 use Rattle.thp_history.specs.declared.shape.Shape.{Shape}
-use Rattle.thp_history.specs.Prelude.{IsShape, max_callers, History, is_closed, allocations, is_alloc, closes, flights, flight, IsLegal, AddsUp, Adds, HasRoom}
+use Rattle.thp_history.specs.Prelude.{IsNodeShape, max_node_callers, History, is_closed, allocations, is_alloc, closes, flights, flight, IsLegal, AddsUp, Adds, HasRoom}
 use Rattle.thp_live_pages.specs.Prelude.{flier}
 use Rattle.thp_history.specs.declared.tally.SplitContext.{SplitContext}
 use Rattle.thp_node.specs.declared.journal.NodeTally.{NodeTally}
@@ -19,11 +19,11 @@ pub record JournalState : Type 0 where
 
 -- the journal is legal, and its numbers are those that its events determine
 pub record IsJournal (shape : Shape) (h : History) (t : NodeTally) : Type 0 where
-  pub has_shape : IsShape shape
+  pub has_shape : IsNodeShape shape
   pub legal : IsLegal shape h
   pub next_is : t.next ≡ allocations h
   pub closed_is : t.closed ≡ is_closed h
-  -- also beyond the 64 callers, where no page is in flight
+  -- also beyond the callers, where no page is in flight
   pub flying_are : (c : ℕ) → slice_index_or t.flying c 0 ≡ length (flight h c)
   pub adds_up : AddsUp shape h t.sums
 
@@ -67,7 +67,7 @@ one_for (Some c) d = cond (nat_eq c d) 1 0
 
 -- a page can join the flight of caller c, or leave it, as far as the counts of pages in flight allow
 abbrev pub FlightHasRoom : List ℕ → ℕ → Type 0
-FlightHasRoom flying c = (c < max_callers) × (slice_index_or flying c 0 + 1 < 2 ^ 8)
+FlightHasRoom flying c = (c < max_node_callers) × (slice_index_or flying c 0 + 1 < 2 ^ 8)
 
 abbrev pub CanLeave : List ℕ → ℕ → Type 0
 CanLeave flying c = 0 < slice_index_or flying c 0

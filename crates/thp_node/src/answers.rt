@@ -4,8 +4,8 @@ use thp_history::PageId;
 /// Why a node could not be created.
 #[derive(Clone, Copy, PartialEq, Eq, Debug)]
 pub enum NewFault {
-    /// The shape or the number of callers is outside the limits: a node has 1 to 4,096 blocks, pages of order 2 to 9 and a
-    /// threshold below the number of subpages; a cell has 1 to 64 callers.
+    /// The shape or the number of callers is outside the limits of the constructor. A node has pages of order 2 to 9 and a threshold
+    /// below the number of subpages.
     BadSize,
     /// Memory for the table of pages could not be allocated.
     OutOfMemory,

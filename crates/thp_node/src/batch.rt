@@ -1,5 +1,5 @@
 //! Pages that a caller took from the queue together.
-ghost use Rattle.thp_history.specs.Prelude.{max_batch, max_callers};
+ghost use Rattle.thp_history.specs.Prelude.{max_batch, max_node_callers};
 ghost use Rattle.std.specs.Prelude.{◌≡◌, ◌+◌, ◌<◌, ◌≤◌, [], ◌∷◌, ◌++◌, drop, length, slice_get, Option};
 ghost use Rattle.thp_node.specs.Batches.{no_batch, rest, IsBatch};
 
@@ -33,7 +33,7 @@ impl Batch {
     /// Returns the caller that took the pages.
     pub fn caller(&self) -> u32
         ensures value { result ≡ self.now.caller }
-        ensures small { result < max_callers }
+        ensures small { result < max_node_callers }
     {
         self.caller
     }
@@ -65,7 +65,7 @@ impl Batch {
 
     // Makes it an empty batch of a caller.
     pub(crate) fn clear(&mut self, caller: u32)
-        requires { caller < max_callers }
+        requires { caller < max_node_callers }
         ensures { self.new ≡ record { caller = caller; pages = []; place = 0 } }
     {
         self.caller = caller;

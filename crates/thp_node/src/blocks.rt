@@ -1,8 +1,8 @@
-//! The blocks of a node: the pages in them, and the chain of free blocks.
+//! The blocks of a node: the pages in them, and the free ones.
 ghost use Rattle.std.specs.Prelude.{◌≡◌, ◌≢◌, ℕ, ◌<◌, [], ◌∷◌, ◌++◌, false, length, Option, Some, None, IsSome, IfOk, OnOk, OnErr};
 ghost use Rattle.std.specs.Bool.{OnTrue, OnFalse};
 ghost use Rattle.std.specs.Result.{result_err};
-ghost use Rattle.thp_history.specs.Prelude.{IsShape, page_refusal, gives_frames, PageState, PageSplit, gain_call, loss_call, Gains};
+ghost use Rattle.thp_history.specs.Prelude.{IsNodeShape, page_refusal, gives_frames, PageState, PageSplit, gain_call, loss_call, Gains};
 ghost use Rattle.thp_page.specs.Prelude.{slot_at, HoldsPage};
 ghost use Rattle.thp_live_pages.specs.Prelude.{AtSlot, Edits, TakesFirst, HasFree};
 ghost use Rattle.thp_node.specs.Chaining.{LostChained, StoresFresh};
@@ -14,13 +14,18 @@ use thp_links::FreeChain;
 use thp_live_pages::PageStore;
 use thp_page::Standing;
 
-// The pages of a node by block, with its queue, and the chain of its free blocks, which shares the queue's links.
+// The pages of a node by block, with its queue, and the chain of its freed blocks, which shares the queue's links.
 //
-// A block is in the chain exactly if it has no page.
+// Blocks are first used in ascending order, so that memory is taken for no block before. A block used before is in the chain
+// exactly if it has no page.
 #[derive(Drop)]
 pub(crate) struct Blocks {
     places: PageStore,
     free: FreeChain,
+    // the number of blocks that were used before: those below
+    used: u32,
+    // the number of all blocks
+    count: u32,
 }
 
 impl Model for Blocks {
@@ -31,24 +36,24 @@ impl Model for Blocks {
 
     ghost view = { λ b. b.places };
 
-    ghost invariant = { λ b. HasChain b.places.table b.free };
+    ghost invariant = { λ b. HasChain b.places.table b.used b.count b.free };
 }
 
 impl Blocks {
-    // A table of blocks without pages.
+    // A table of blocks without pages, none used before.
     pub(crate) fn new(alloc: Global, shape: Shape) -> Result<Blocks, AllocError>
-        requires { IsShape shape }
+        requires { IsNodeShape shape }
         ensures size { IfOk result (λ b. length b.table.slots ≡ shape.blocks) }
         ensures order { IfOk result (λ b. b.table.order ≡ shape.order) }
         ensures empty { IfOk result (λ b. (i : ℕ) → slot_at b.table i ≡ None) }
         ensures queue { IfOk result (λ b. b.queue ≡ []) }
     {
-        let mut places = PageStore::new(alloc, shape)?;
-        let mut free = FreeChain::new();
-        for block in (0..shape.blocks).rev() {
-            places.push_free(&mut free, block);
-        }
-        Ok(Blocks { places, free })
+        Ok(Blocks {
+            places: PageStore::new(alloc, shape)?,
+            free: FreeChain::new(),
+            used: 0,
+            count: shape.blocks,
+        })
     }
 
     // The pages with their queue, to be read.
@@ -134,6 +139,9 @@ impl Blocks {
         ensures some { OnTrue result (HasFree self.now.table) }
         ensures none { OnFalse result ((b : ℕ) → b < length self.now.table.slots → IsSome (slot_at self.now.table b)) }
     {
+        if self.used < self.count {
+            return true;
+        }
         match self.free.first() {
             Some(_) => true,
             None => false,
@@ -148,10 +156,13 @@ impl Blocks {
         ensures free { slot_at self.old.table result ≡ None }
         ensures placed { StoresFresh self.old self.new result page queued }
     {
-        let Some(block) = self.places.pop_free(&mut self.free) else {
-            unreachable!()
-        };
-        self.places.place(block, page, queued);
-        block
+        if let Some(block) = self.places.pop_free(&mut self.free) {
+            self.places.place(block, page, queued);
+            return block;
+        }
+        let unused = self.used;
+        self.places.place(unused, page, queued);
+        self.used += 1;
+        unused
     }
 }

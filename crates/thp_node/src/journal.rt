@@ -1,18 +1,15 @@
 //! The journal of a node, and the numbers that are maintained with it.
-ghost use Rattle.std.specs.Prelude.{◌≡◌, ℕ, ◌+◌, ◌<◌, ◌≤◌, [], ◌∷◌, ◌++◌, ◌^◌, length, OnOk, OnErr, IfErr, IfSome, IsTrue, ◌↔◌, None, Some, not};
-ghost use Rattle.thp_history.specs.Prelude.{max_callers, by, IsShape, IsContext, allocations, is_closed, counters_of, frames_given, frames_held, flight, IsLegal, Fits, loss_what, with_loss};
+ghost use Rattle.std.specs.Prelude.{◌≡◌, ℕ, ◌+◌, ◌<◌, ◌≤◌, [], ◌∷◌, ◌++◌, ◌^◌, length, IfOk, OnOk, OnErr, IfErr, IfSome, IsTrue, ◌↔◌, None, Some, not};
+ghost use Rattle.thp_history.specs.Prelude.{max_node_callers, by, IsNodeShape, IsContext, allocations, is_closed, counters_of, frames_given, frames_held, flight, IsLegal, Fits, loss_what, with_loss};
 ghost use Rattle.thp_node.specs.Journals.{HasFlightRoom, leaves_by, leaves_of, joins_of, HasCountRoom, FlightHasRoom, CanLeave, FlightsMove, Counts};
 
+use crate::flight_counts::FlightCounts;
 use crate::recorder::{FullLog, Recorder};
-use std::alloc::Global;
+use std::alloc::{AllocError, Global};
 use std::marker::Model;
 use thp_history::{
-    Counters, Done, Event, Loss, MAX_CALLERS, Outcome, PageId, Refusal, Shape, SplitContext,
-    SubSet, Tally, What,
+    Counters, Done, Event, Loss, Outcome, PageId, Refusal, Shape, SplitContext, SubSet, Tally, What,
 };
-
-// The number of callers that a journal counts for.
-const SEATS: usize = MAX_CALLERS as usize;
 
 // The history of a node, and the numbers about it that calls need in constant time.
 #[derive(Drop)]
@@ -28,8 +25,7 @@ struct NodeTally {
     // the number of pages allocated: the next page's number
     next: u64,
     closed: bool,
-    // the number of pages that each caller has in flight
-    flying: [u8; SEATS],
+    flying: FlightCounts,
     sums: Tally,
 }
 
@@ -45,21 +41,22 @@ impl<R: Recorder> Model for Journal<R> {
 
 impl<R: Recorder> Journal<R> {
     // A journal with no event.
-    pub(crate) fn new(alloc: Global, shape: Shape) -> Journal<R>
-        requires { IsShape shape }
-        ensures shape { result.shape ≡ shape }
-        ensures events { result.events ≡ [] }
+    pub(crate) fn new(alloc: Global, shape: Shape) -> Result<Journal<R>, AllocError>
+        requires { IsNodeShape shape }
+        ensures shape { IfOk result (λ j. j.shape ≡ shape) }
+        ensures events { IfOk result (λ j. j.events ≡ []) }
     {
-        Journal {
+        let flying = FlightCounts::new(alloc)?;
+        Ok(Journal {
             shape,
             events: R::empty(alloc),
             tally: NodeTally {
                 next: 0,
                 closed: false,
-                flying: [0; SEATS],
+                flying,
                 sums: Tally::new(),
             },
-        }
+        })
     }
 
     // Reserves room for `count` events.
@@ -87,7 +84,7 @@ impl<R: Recorder> Journal<R> {
     // that a caller with a known kind of event writes and counts that kind only.
     #[inline(always)]
     pub(crate) fn record(&mut self, caller: u32, what: What, split: SplitContext)
-        requires caller { caller < max_callers }
+        requires caller { caller < max_node_callers }
         requires room { 0 < self.old.room }
         requires fits { Fits self.old.shape self.old.events (by caller what) }
         requires flight { HasFlightRoom self.old.events caller what }
@@ -115,7 +112,7 @@ impl<R: Recorder> Journal<R> {
         done: &Done,
         left: Option<u32>,
     )
-        requires caller { caller < max_callers }
+        requires caller { caller < max_node_callers }
         requires room { 0 < self.old.room }
         requires fits { Fits self.old.shape self.old.events (by caller (loss_what loss page done.now.outcome done.now.released)) }
         requires leaves { left ≡ leaves_of self.old.events caller (loss_what loss page done.now.outcome done.now.released) }
@@ -133,7 +130,7 @@ impl<R: Recorder> Journal<R> {
     // The shape of the node.
     pub(crate) fn shape(&self) -> Shape
         ensures value { result ≡ self.now.shape }
-        ensures valid { IsShape self.now.shape }
+        ensures valid { IsNodeShape self.now.shape }
     {
         self.shape
     }
@@ -161,10 +158,10 @@ impl<R: Recorder> Journal<R> {
 
     // The number of pages that a caller has in flight.
     pub(crate) fn flying(&self, caller: u32) -> u64
-        requires { caller < max_callers }
+        requires { caller < max_node_callers }
         ensures { result ≡ length (flight self.now.events caller) }
     {
-        u64::from(self.tally.flying[caller as usize])
+        self.tally.flying.of(caller)
     }
 
     // The number of frames given back.
@@ -211,9 +208,9 @@ impl NodeTally {
         self.sums.count(what, split);
         match what {
             What::Alloc { .. } => self.next += 1,
-            What::Taken { .. } => self.flying[caller as usize] += 1,
+            What::Taken { .. } => self.flying.join(caller),
             What::Split { .. } | What::Used { .. } | What::Back { .. } | What::Dropped { .. } => {
-                self.flying[caller as usize] -= 1;
+                self.flying.leave(caller);
             }
             What::Close => self.closed = true,
             _ => {}
@@ -231,7 +228,7 @@ impl NodeTally {
     {
         self.sums.count_loss(outcome, released);
         if let Some(caller) = left {
-            self.flying[caller as usize] -= 1;
+            self.flying.leave(caller);
         }
     }
 }

@@ -9,8 +9,9 @@
 //! - `node`: construction and readers. `node/page_calls`, `list_calls`, `batch_calls`, `return_calls`: the calls.
 //! - `batch`, `answers`: batches and results (`Batches`); `Takings`, `Returning`, `Scanning` are for longer calls.
 //! - `journal`: events and statistics (`Journals`); `recorder`: [`FullLog`] keeps each event,
-//!   [`CountOnly`] counts them, and contracts see one history of both (`Recorders`). A caller's flight is counted in a byte.
-//! - `blocks`: the page store and the chain of free blocks (`Chaining`, proof `ChainLemmas`).
+//!   [`CountOnly`] counts them, and contracts see one history of both (`Recorders`). `flight_counts` counts each flight in a
+//!   byte.
+//! - `blocks`: the page store and the chain of freed blocks (`Chaining`, proof `ChainLemmas`).
 //! - `laws` and `journal` ensure the laws of `JournalLaws`; proof `JournalFacts` has them for every legal history.
 //!
 //! `put_back` requires that its batch is a prefix of its flight; `take` ensures it and every call preserves it (`front`,
@@ -20,6 +21,7 @@
 mod answers;
 mod batch;
 mod blocks;
+mod flight_counts;
 mod journal;
 mod node;
 mod recorder;

@@ -1,7 +1,7 @@
 //! A memory node: its parts, its constructors, and what can be read of it.
 ghost use Rattle.std.specs.Prelude.{◌≡◌, ℕ, ◌<◌, ◌≤◌, true, [], length, map, Some, ◌↔◌, Err, IfOk, IfErr, OnOk, OnErr};
 ghost use Rattle.thp_links.specs.Prelude.{Stands};
-ghost use Rattle.thp_history.specs.Prelude.{allocations, is_live, IsShape, counters_of, frames_given, frames_held, IsLegal, queue};
+ghost use Rattle.thp_history.specs.Prelude.{allocations, is_live, IsNodeShape, IsShape, counters_of, frames_given, frames_held, IsLegal, queue};
 ghost use Rattle.thp_page.specs.Prelude.{slot_at};
 ghost use Rattle.thp_live_pages.specs.Prelude.{Fills, HasBlock, block_of, LiesWherePlaced};
 ghost use Rattle.thp_node.specs.JournalLaws.{StandsOnce, StandsWhole, TakesOldest, LeavesFreedAlone, AllocatesOnce, NothingEnters, HasFramesOnce, KeepsFrames, HoldsWhileLive, LivesApart, OthersFree, FlightsGoOn, QueueGoesOn, NoneIsUnderused};
@@ -23,7 +23,7 @@ use thp_page::PageTable;
 
 /// A memory node, used by one thread, that records its events in an `R`.
 ///
-/// Callers are numbered from 0 to 63. Contracts see the node's shape, its journal, its room, its table of pages and the blocks of
+/// Callers are numbered from 0 to 4,095. Contracts see the node's shape, its journal, its room, its table of pages and the blocks of
 /// its queue. The room is the number of events that can be recorded without an allocation: a call whose events fit the room never
 /// fails with `OutOfMemory`. A call that fails changes nothing.
 #[derive(Drop)]
@@ -44,23 +44,25 @@ impl<R: Recorder> Model for Node<R> {
 }
 
 impl<R: Recorder> Node<R> {
-    /// Creates a node with no page and an empty journal, for any recorder. Fails with `BadSize` if the shape is not valid, and
-    /// with `OutOfMemory` if the table of pages can't be allocated.
+    /// Creates a node of 1 to 16,777,216 blocks with no page and an empty journal, for any recorder. Fails with `BadSize` if a node
+    /// can't have this shape, and with `OutOfMemory` if memory for its pages can't be reserved. A page takes memory when its block
+    /// is first used; no call allocates for it.
     pub fn with_recorder(alloc: Global, shape: Shape) -> Result<Node<R>, NewFault>
-        ensures bad_size { (result ≡ Err NewFault.BadSize) ↔ ¬ IsShape shape }
+        ensures bad_size { (result ≡ Err NewFault.BadSize) ↔ ¬ IsNodeShape shape }
         ensures shape { IfOk result (λ n. n.shape ≡ shape) }
         ensures journal { IfOk result (λ n. n.journal ≡ []) }
     {
-        if !shape.is_valid() {
+        if !shape.is_of_node() {
             return Err(NewFault::BadSize);
         }
         let Ok(blocks) = Blocks::new(alloc, shape) else {
             return Err(NewFault::OutOfMemory);
         };
-        Ok(Node {
-            journal: Journal::new(alloc, shape),
-            blocks,
-        })
+        let Ok(journal) = Journal::new(alloc, shape) else {
+            drop(blocks);
+            return Err(NewFault::OutOfMemory);
+        };
+        Ok(Node { journal, blocks })
     }
 
     /// Reserves room for `k` events. For this purpose a scan needs three events for each page that it takes. Fails with
@@ -79,7 +81,7 @@ impl<R: Recorder> Node<R> {
     /// Returns the node's shape.
     pub fn shape(&self) -> Shape
         ensures value { result ≡ self.now.shape }
-        ensures valid { IsShape self.now.shape }
+        ensures valid { IsNodeShape self.now.shape }
     {
         self.journal.shape()
     }
@@ -173,13 +175,17 @@ impl<R: Recorder> Node<R> {
 }
 
 impl Node<FullLog> {
-    /// Creates a node with no page and an empty journal, which keeps its events. Fails with `BadSize` if the shape is not valid,
-    /// and with `OutOfMemory` if the table of pages can't be allocated.
+    /// Creates a node of 1 to 4,096 blocks with no page and an empty journal, which keeps its events: a node of a script.
+    /// `with_recorder` creates larger ones. Fails with `BadSize` if the shape is not valid, and with `OutOfMemory` if memory for its
+    /// pages can't be reserved.
     pub fn new(alloc: Global, shape: Shape) -> Result<Node, NewFault>
         ensures bad_size { (result ≡ Err NewFault.BadSize) ↔ ¬ IsShape shape }
         ensures shape { IfOk result (λ n. n.shape ≡ shape) }
         ensures journal { IfOk result (λ n. n.journal ≡ []) }
     {
+        if !shape.is_valid() {
+            return Err(NewFault::BadSize);
+        }
         Node::with_recorder(alloc, shape)
     }
 

@@ -7,9 +7,16 @@ pub mod PageChanges
 pub mod PageUse
 pub mod Trailing
 pub mod ZeroSets
-pub mod Chains
-pub mod Buckets
+mod LowBits
+mod Hanging
+mod Splitting
+mod Seeking
+mod TreeSteps
+mod SplitSteps
+mod PaddedNumbers
 pub mod TableSlots
+mod Paddings
+mod StoredDescriptors
 pub mod TableSteps
 pub mod Recording
 mod Carries

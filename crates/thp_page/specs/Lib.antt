@@ -3,6 +3,7 @@ pub mod PageView
 pub mod Changes
 pub mod Table
 pub mod Slots
+pub mod Padding
 pub mod Descriptors
 pub mod Searching
 pub mod Lending

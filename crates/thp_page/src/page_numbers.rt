@@ -1,35 +1,30 @@
 //! The number of the page in each block, and the block of a number.
-ghost use Rattle.std.specs.Prelude.{◌≡◌, ◌≢◌, ◌<◌, ◌^◌, ℕ, List, length, replicate, slice_index, slice_index_or, slice_set, Contains, IsSome, IfOk, IfSome, IfNone, Option, Some, None};
-ghost use Rattle.std.specs.Bool.{OnTrue, OnFalse};
-ghost use Rattle.thp_page.specs.Searching.{bucket_at, IsBucket, IsChain, IsInChain, IsUnlinked};
+ghost use Rattle.std.specs.Prelude.{◌≡◌, ◌≢◌, ◌<◌, ◌≤◌, ◌+◌, ◌-◌, ◌++◌, ℕ, length, replicate, slice_index_or, slice_set, IsSome, IfOk, IfSome, IfNone, Some, None};
+ghost use Rattle.thp_page.specs.Searching.{HasTreeRoom, IsSearchable};
 
+use crate::number_trees::NumberTrees;
 use std::alloc::{AllocError, Global};
 use std::marker::Model;
 use thp_history::PageId;
-use thp_links::NIL;
 
-// The number of buckets. A node has at most half as many blocks, so pages allocated one after the other are in different buckets.
-const BUCKETS: u64 = 8192;
-
-// The numbers of the pages of a table, by block. Blocks whose numbers share a bucket are in one chain.
+// The numbers of the pages of a table, by block.
 #[derive(Drop)]
 pub(crate) struct PageNumbers {
-    numbers: Vec<Option<PageId>>,
-    // For each block the next one of its chain, or `NIL`. The entry of an empty block is arbitrary.
-    nexts: Vec<u32>,
-    // For each bucket the first block of its chain, the one whose number was set last, or `NIL`.
-    firsts: Vec<u32>,
+    blocks: u32,
+    // The numbers of the blocks up to the highest one used so far; the blocks above it have none.
+    trees: NumberTrees,
 }
 
 impl Model for PageNumbers {
-    ghost use Rattle.std.specs.Prelude.{ℕ, List, Option};
-    ghost use Rattle.thp_page.specs.Searching.{IsSearchable};
+    ghost use Rattle.std.specs.Prelude.{ℕ, List, Option, None};
+    ghost use Rattle.thp_page.specs.Padding.{padded};
+    ghost use Rattle.thp_page.specs.Searching.{HasTreeRoom, IsSearchable};
 
     ghost Value = { List (Option ℕ) };
 
-    ghost view = { λ p. p.numbers.items };
+    ghost view = { λ p. padded p.blocks None p.trees.numbers.items };
 
-    ghost invariant = { λ p. IsSearchable p.numbers.items p.nexts.items p.firsts.items };
+    ghost invariant = { λ p. IsSearchable p.trees × HasTreeRoom p.blocks p.trees };
 }
 
 impl PageNumbers {
@@ -37,35 +32,33 @@ impl PageNumbers {
     pub(crate) fn new(alloc: Global, blocks: u32) -> Result<PageNumbers, AllocError>
         ensures { IfOk result (λ p. p ≡ replicate blocks None) }
     {
-        let mut numbers = Vec::with_capacity(alloc, blocks as usize)?;
-        for _block in 0..blocks {
-            numbers.push_reserved(None);
-        }
         Ok(PageNumbers {
-            numbers,
-            nexts: vec![in alloc; NIL; blocks as usize]?,
-            firsts: vec![in alloc; NIL; BUCKETS as usize]?,
+            blocks,
+            trees: NumberTrees::new(alloc, blocks)?,
         })
     }
 
     // The number in a block.
+    #[inline(always)]
     pub(crate) fn at(&self, block: u32) -> Option<PageId>
         requires { block < length self.now }
         ensures { result ≡ slice_index_or self.now block None }
     {
-        self.numbers[block as usize]
+        if block as usize >= self.trees.numbers.len() {
+            return None;
+        }
+        self.trees.numbers[block as usize]
     }
 
     // Sets the number of a block that has none.
     pub(crate) fn place(&mut self, block: u32, id: PageId)
         requires inside { block < length self.old }
         requires empty { slice_index_or self.old block None ≡ None }
+        requires new { (b : ℕ) → slice_index_or self.old b None ≢ Some id }
         ensures { self.new ≡ slice_set self.old block (Some id) }
     {
-        let bucket = bucket_of(id);
-        self.numbers[block as usize] = Some(id);
-        self.nexts[block as usize] = self.firsts[bucket];
-        self.firsts[bucket] = block;
+        reach(&mut self.trees, self.blocks, block);
+        self.trees.place(block, id);
     }
 
     // Clears the number of a block.
@@ -77,64 +70,47 @@ impl PageNumbers {
         let Some(id) = self.at(block) else {
             unreachable!()
         };
-        let bucket = bucket_of(id);
-        let first = unlink(&mut self.nexts, self.firsts[bucket], block);
-        self.firsts[bucket] = first;
-        self.numbers[block as usize] = None;
+        self.trees.clear(block, id);
     }
 
-    // The block with this number, if any: a walk through the chain of its bucket.
+    // The block with this number, if any.
+    #[inline(always)]
     pub(crate) fn block_of(&self, id: PageId) -> Option<u32>
         ensures found { IfSome result (λ b. slice_index_or self.now b None ≡ Some id) }
         ensures inside { IfSome result (λ b. b < length self.now) }
         ensures absent { IfNone result ((b : ℕ) → slice_index_or self.now b None ≢ Some id) }
     {
-        let mut block = self.firsts[bucket_of(id)];
-        while block != NIL {
-            if self.numbers[block as usize] == Some(id) {
-                return Some(block);
-            }
-            block = self.nexts[block as usize];
-        }
-        None
+        self.trees.block_of(id)
     }
 }
 
-// Removes a block from its chain, which begins with `first`, and returns the chain's new first block.
-fn unlink(nexts: &mut [u32], first: u32, block: u32) -> u32
-    requires small { length nexts.old < 2 ^ 32 }
-    requires chain { IsInChain nexts.old first block }
-    ensures { IsUnlinked nexts.old nexts.new first result block }
+// Adds blocks without numbers up to this one, of so many, if it isn't there.
+#[inline(always)]
+fn reach(trees: &mut NumberTrees, blocks: u32, block: u32)
+    requires searchable { IsSearchable trees.old }
+    requires room { HasTreeRoom blocks trees.old }
+    requires inside { block < blocks }
+    ensures searchable { IsSearchable trees.new }
+    ensures grown { trees.new.numbers.items ≡ trees.old.numbers.items ++ replicate (block + 1 - length trees.old.numbers.items) None }
+    ensures room { HasTreeRoom blocks trees.new }
 {
-    let next = nexts[block as usize];
-    if first == block {
-        return next;
+    if block as usize >= trees.numbers.len() {
+        extend(trees, blocks, block);
     }
-    let before = block_before(nexts, first, block);
-    nexts[before as usize] = next;
-    first
 }
 
-// The block before this one in its chain, which begins with `first`, another block.
-fn block_before(nexts: &[u32], first: u32, block: u32) -> u32
-    requires small { length nexts.now < 2 ^ 32 }
-    requires chain { IsInChain nexts.now first block }
-    requires later { first ≢ block }
-    ensures inside { result < length nexts.now }
-    ensures leads { slice_index nexts.now result ≡ block }
-    ensures member { (bs : List ℕ) → IsChain nexts.now first bs → Contains bs result }
+// The same where it isn't there.
+#[inline(never)]
+fn extend(trees: &mut NumberTrees, blocks: u32, block: u32)
+    requires searchable { IsSearchable trees.old }
+    requires room { HasTreeRoom blocks trees.old }
+    requires inside { block < blocks }
+    requires absent { length trees.old.numbers.items ≤ block }
+    ensures searchable { IsSearchable trees.new }
+    ensures grown { trees.new.numbers.items ≡ trees.old.numbers.items ++ replicate (block + 1 - length trees.old.numbers.items) None }
+    ensures room { HasTreeRoom blocks trees.new }
 {
-    let mut before = first;
-    while nexts[before as usize] != block {
-        before = nexts[before as usize];
+    while trees.numbers.len() <= block as usize {
+        trees.push(blocks);
     }
-    before
-}
-
-// The bucket of a number, by its low bits.
-fn bucket_of(id: PageId) -> usize
-    ensures value { result ≡ bucket_at id }
-    ensures below { result < 8192 }
-{
-    (id.0 % BUCKETS) as usize
 }

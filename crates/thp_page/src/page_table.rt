@@ -1,7 +1,8 @@
 //! The table of page descriptors: a link pair for each block of a node, and a page for each block in use.
-ghost use Rattle.std.specs.Prelude.{◌≡◌, ◌<◌, ◌≤◌, ℕ, ◌+◌, length, replicate, IsSome, IfOk, IfSome, IfNone, Option, Some, None};
+ghost use Rattle.std.specs.Prelude.{◌≡◌, ◌<◌, ◌≤◌, ℕ, ◌+◌, ◌-◌, ◌++◌, length, replicate, vec_capacity, IsSome, IfOk, IfSome, IfNone, Option, Some, None};
 ghost use Rattle.std.specs.Option.{option_map, option_copied_mut};
 ghost use Rattle.thp_history.specs.Prelude.{max_order, min_order, IsFresh};
+ghost use Rattle.thp_page.specs.Descriptors.{blank_descriptor};
 ghost use Rattle.thp_page.specs.Fresh.{fresh_page};
 ghost use Rattle.thp_page.specs.Table.{Slot};
 ghost use Rattle.thp_page.specs.Slots.{slot_at, with_slot, fresh_slot, number_in, page_in, stood, HoldsPage};
@@ -14,6 +15,12 @@ use std::marker::Model;
 use thp_history::PageId;
 use thp_links::{AccessCount, Link, LinkTable, NIL};
 
+// The pair of a block that was never linked.
+const NO_LINK: Link = Link {
+    prev: NIL,
+    next: NIL,
+};
+
 // What the table stores for a block, in use or not. An empty block keeps the contents of its last page.
 #[derive(Drop)]
 struct Descriptor {
@@ -22,25 +29,34 @@ struct Descriptor {
     page: Page,
 }
 
-/// The page descriptors of a node, by block.
+/// The page descriptors of a node, by block. All memory is reserved by [`new`](PageTable::new), and the system provides it as
+/// blocks are used for the first time.
 #[derive(Drop)]
 pub struct PageTable {
     order: u32,
+    blocks: u32,
     // A block is in use exactly if it has a number.
     numbers: PageNumbers,
+    // The descriptors up to the highest block used so far; those of the blocks above it are blank.
     descriptors: Vec<Descriptor>,
     accesses: AccessCount,
 }
 
 impl Model for PageTable {
+    ghost use Rattle.std.specs.Prelude.{vec_capacity};
     ghost use Rattle.thp_page.specs.Table.{Table};
-    ghost use Rattle.thp_page.specs.Descriptors.{links_of, slots_of, IsSized};
+    ghost use Rattle.thp_page.specs.Descriptors.{descriptors_of, links_of, slots_of, IsSized};
 
     ghost Value = { Table };
 
-    ghost view = { λ t. record { order = t.order; links = links_of t.descriptors.items; slots = slots_of t.numbers t.descriptors.items; accesses = t.accesses } };
+    ghost view = { λ t. record {
+      order = t.order;
+      links = links_of (descriptors_of t.order t.blocks t.descriptors.items);
+      slots = slots_of t.numbers (descriptors_of t.order t.blocks t.descriptors.items);
+      accesses = t.accesses;
+    } };
 
-    ghost invariant = { λ t. IsSized t.order t.numbers t.descriptors.items };
+    ghost invariant = { λ t. IsSized t.order t.blocks (vec_capacity t.descriptors) t.numbers t.descriptors.items };
 }
 
 impl Descriptor {
@@ -57,12 +73,54 @@ impl Descriptor {
     }
 }
 
+// The descriptor of a block that was never used.
+fn blank(order: u32) -> Descriptor
+    requires least { min_order ≤ order }
+    requires most { order ≤ max_order }
+    ensures { result ≡ blank_descriptor order }
+{
+    Descriptor {
+        link: NO_LINK,
+        standing: Standing::Nowhere,
+        page: Page::fresh(order),
+    }
+}
+
+// Appends blank descriptors up to that of the block, if there are fewer.
+#[inline(always)]
+fn reach(descriptors: &mut Vec<Descriptor>, order: u32, block: u32)
+    requires least { min_order ≤ order }
+    requires most { order ≤ max_order }
+    requires room { block < vec_capacity descriptors.old }
+    ensures blank { descriptors.new.items ≡ descriptors.old.items ++ replicate (block + 1 - length descriptors.old.items) (blank_descriptor order) }
+    ensures capacity { vec_capacity descriptors.new ≡ vec_capacity descriptors.old }
+{
+    if block as usize >= descriptors.len() {
+        extend(descriptors, order, block);
+    }
+}
+
+// The same where the block has no descriptor.
+#[inline(never)]
+fn extend(descriptors: &mut Vec<Descriptor>, order: u32, block: u32)
+    requires least { min_order ≤ order }
+    requires most { order ≤ max_order }
+    requires room { block < vec_capacity descriptors.old }
+    requires absent { length descriptors.old.items ≤ block }
+    ensures blank { descriptors.new.items ≡ descriptors.old.items ++ replicate (block + 1 - length descriptors.old.items) (blank_descriptor order) }
+    ensures capacity { vec_capacity descriptors.new ≡ vec_capacity descriptors.old }
+{
+    while descriptors.len() <= block as usize {
+        descriptors.push_reserved(blank(order));
+    }
+}
+
 impl PageTable {
     ghost use Rattle.std.specs.Borrow.{sem};
     ghost use Rattle.thp_page.specs.Lending.{lends_page};
 
-    /// Creates a table of `blocks` empty blocks, for pages of `2 ^ order` subpages. Allocates all memory that the table will ever
-    /// use, and fails if it can't be allocated.
+    /// Creates a table of `blocks` empty blocks, for pages of `2 ^ order` subpages. Reserves all memory that the table will ever
+    /// use, and fails if it can't be reserved. Touches none of a block's memory before the block is used.
     pub fn new(alloc: Global, blocks: u32, order: u32) -> Result<PageTable, AllocError>
         requires least { min_order ≤ order }
         requires most { order ≤ max_order }
@@ -71,21 +129,11 @@ impl PageTable {
         ensures empty { IfOk result (λ t. t.slots ≡ replicate blocks None) }
         ensures accesses { IfOk result (λ t. t.accesses ≡ 0) }
     {
-        let mut descriptors = Vec::with_capacity(alloc, blocks as usize)?;
-        for _block in 0..blocks {
-            descriptors.push_reserved(Descriptor {
-                link: Link {
-                    prev: NIL,
-                    next: NIL,
-                },
-                standing: Standing::Nowhere,
-                page: Page::fresh(order),
-            });
-        }
         Ok(PageTable {
             order,
+            blocks,
             numbers: PageNumbers::new(alloc, blocks)?,
-            descriptors,
+            descriptors: Vec::with_capacity(alloc, blocks as usize)?,
             accesses: AccessCount::new(),
         })
     }
@@ -96,7 +144,6 @@ impl PageTable {
         ensures inside { IfSome result (λ b. b < length self.now.links) }
         ensures absent { IfNone result ((b : ℕ) → HoldsPage (slot_at self.now b) id → ⊥) }
     {
-        let _blocks = self.descriptors.len();
         self.numbers.block_of(id)
     }
 
@@ -117,6 +164,9 @@ impl PageTable {
         ensures value { option_copied_mut result ≡ page_in (slot_at self.old block) }
     {
         let taken = self.numbers.at(block).is_some();
+        if !taken {
+            return None;
+        }
         self.descriptors[block as usize].page_mut(taken)
     }
 
@@ -128,6 +178,7 @@ impl PageTable {
         ensures table { self.new ≡ with_slot self.old block (Some (fresh_slot self.old.order id)) }
         ensures fresh { IsFresh self.old.order (fresh_page self.old.order) }
     {
+        reach(&mut self.descriptors, self.order, block);
         let descriptor = &mut self.descriptors[block as usize];
         descriptor.standing = Standing::Nowhere;
         descriptor.page.renew(self.order);
@@ -173,16 +224,20 @@ impl LinkTable for PageTable {
     ghost same_rest = { SameSlots };
 
     fn len(&self) -> u32 {
-        self.descriptors.len() as u32
+        self.blocks
     }
 
     fn link(&mut self, i: u32) -> Link {
         self.accesses.step();
+        if i as usize >= self.descriptors.len() {
+            return NO_LINK;
+        }
         self.descriptors[i as usize].link
     }
 
     fn set_link(&mut self, i: u32, link: Link) {
         self.accesses.step();
+        reach(&mut self.descriptors, self.order, i);
         self.descriptors[i as usize].link = link;
     }
 

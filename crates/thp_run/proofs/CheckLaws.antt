@@ -4,6 +4,7 @@ use Rattle.std.specs.Io.KnownBytes.{Appends}
 use Rattle.thp_script.specs.declared.fault.ReadFault.{ReadFault}
 use Rattle.thp_script.specs.Prelude.{IsInputOf, ReportsFault, max_input}
 use Rattle.thp_journal_reader.specs.Prelude.{IsVerdict, is_legal, journals_of}
+use Rattle.thp_journal_reader.specs.declared.line.Accepted.TheVariants.{UpToVersion3}
 use Rattle.thp_journal_reader.proofs.VerdictLaws.{fault_of_journal, verdict_of_input}
 use Rattle.thp_cli.specs.declared.fault.RunFault.{RunFault}
 use Rattle.thp_cli.specs.declared.fault.RunFault.TheVariants.{Write}
@@ -23,7 +24,7 @@ cut_from x fault e = grind arith
 pub check_ends_cut : (known old new : Option (List ℕ)) (bytes text : List ℕ) (reader_failed writer_failed : Bool) (illegal : Option ℕ) (o : Option (Unit {0})) (r : Result Bool (RunFault ℕ)) → IfSome known (IsInputOf bytes) → IsVerdict bytes (is_legal illegal) text
     → o ≡ None → IfNone o (WritesFront old new text) → IfNone o (writer_failed ≡ true) → reader_failed ≡ false → r ≡ Err Write → CheckEnds known old new reader_failed writer_failed r
 check_ends_cut known old new bytes text rf wf illegal o r read v none cut failed e is =
-    ends_cut max_input IsVerdict (λ input f. journals_of input ≡ Err f) (verdict_of_input max_input) (fault_of_journal max_input) known bytes read old new rf wf (is_legal illegal) text r v (rw none at cut) e (rw none at failed) is
+    ends_cut max_input IsVerdict (λ input f. journals_of input ≡ Err f) (verdict_of_input UpToVersion3 max_input) (fault_of_journal UpToVersion3 max_input) known bytes read old new rf wf (is_legal illegal) text r v (rw none at cut) e (rw none at failed) is
 
 -- what isn't there is no line
 pub legal_is : (illegal : Option ℕ) (legal : Bool) → is_some illegal ≡ not legal → legal ≡ is_legal illegal

@@ -6,8 +6,7 @@
     thprecord -- python3 groups.py stays       # makes a group in its own, in which a child stays
 
 Of eight pages, the half is in the queue before the change; after it, eight more are made. With `inner`, eight are made before it, too.
-Needs root.
-"""
+Needs root."""
 
 import ctypes
 import mmap

@@ -2,8 +2,7 @@
 
     thprecord -- python3 shared.py threads|processes WORKERS SEED
 
-In processes each worker's commands change its own mappings: a subpage is unmapped once all have unmapped it.
-"""
+In processes each worker's commands change its own mappings: a subpage is unmapped once all have unmapped it."""
 
 from __future__ import annotations
 

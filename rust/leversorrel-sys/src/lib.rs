@@ -258,13 +258,15 @@ pub const THP_LIST_FLIGHT: u32 = 2;
 /// The threshold with which the shrinker does not look for underused pages.
 pub const THP_UNDERUSED_OFF: u32 = u32::MAX;
 /// The greatest number of live pages of a node; the least is 1.
-pub const THP_MAX_BLOCKS: u32 = 4_096;
+pub const THP_MAX_BLOCKS: u32 = 16_777_216;
 /// The least order of a node's pages.
 pub const THP_MIN_ORDER: u32 = 2;
 /// The greatest order: 512 subpages.
 pub const THP_MAX_ORDER: u32 = 9;
-/// The greatest number of callers; their numbers are below it.
+/// The greatest number of callers of a node's handle; their numbers are below it.
 pub const THP_MAX_CALLERS: u32 = 64;
+/// The greatest number of callers of a cell.
+pub const THP_MAX_CELL_CALLERS: u32 = 4_096;
 /// The greatest number of pages of one take or scan.
 pub const THP_MAX_BATCH: u32 = 128;
 /// The length in bytes of the longest text that `thp_check_text` reads.

@@ -5,7 +5,7 @@ use crate::nodes::{Start, node_of};
 use std::alloc::Global;
 use tests_steps::{Answer, Call, FREED, QUEUED, STAYS, shape_of};
 use thp_history::{Outcome, Shape};
-use thp_node::{Counters, NewFault, Node};
+use thp_node::{CountOnly, Counters, NewFault, Node};
 
 const TWO_OF_THREE_OLDEST: &[Step] = &[
     Step::Scan(2, [2, 2, 0, 0, 0, 0]),
@@ -220,4 +220,32 @@ fn limits_and_constructors(rt: HostRuntime) {
     let mut node = node_of(&rt, rt.alloc(), 4096);
     assert!(rt; is_largest(&mut node));
     drop(node);
+}
+
+// Why there is no node of this many blocks, beyond those of scripts; none if its greatest caller can allocate a page there.
+fn fault_of_large(alloc: Global, blocks: u32) -> Option<NewFault> {
+    let shape = Shape {
+        blocks,
+        order: 9,
+        underused: None,
+    };
+    match Node::<CountOnly>::with_recorder(alloc, shape) {
+        Ok(mut node) => {
+            let page = node.alloc_page(4095);
+            drop(node);
+            if page.is_ok() {
+                None
+            } else {
+                Some(NewFault::OutOfMemory)
+            }
+        }
+        Err(fault) => Some(fault),
+    }
+}
+
+#[test]
+fn blocks_of_any_node(rt: HostRuntime) {
+    assert!(rt; fault_of_large(rt.alloc(), 4097) == None);
+    assert!(rt; fault_of_large(rt.alloc(), 16_777_216) == None);
+    assert!(rt; fault_of_large(rt.alloc(), 16_777_217) == Some(NewFault::BadSize));
 }

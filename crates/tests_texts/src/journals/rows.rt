@@ -156,3 +156,37 @@ end
 ";
     expect_text(&rt, rt.alloc(), small(4, Some(1)), &events, text);
 }
+
+#[test]
+fn version_4_if_something_is_large(rt: HostRuntime) {
+    let close = [by(64, What::Close)];
+    let text = b"thp-journal 4\nnode 0 blocks 16 order 9 underused off\n64 close\nend\n";
+    expect_text(&rt, rt.alloc(), large(16), &close, text);
+    let text = b"thp-journal 4\nnode 0 blocks 4097 order 2 underused 1\nend\n";
+    expect_text(&rt, rt.alloc(), small(4097, Some(1)), &[], text);
+    let last = [by(63, What::Close)];
+    let text = b"thp-journal 1\nnode 0 blocks 4096\n63 close\nend\n";
+    expect_text(&rt, rt.alloc(), large(4096), &last, text);
+}
+
+#[test]
+fn version_4_if_there_are_nine_nodes(rt: HostRuntime) {
+    let node = NodeHistory {
+        shape: large(1),
+        events: &[],
+    };
+    let nodes = [node; 9];
+    let text = b"thp-journal 4
+node 0 blocks 1 order 9 underused off
+node 1 blocks 1 order 9 underused off
+node 2 blocks 1 order 9 underused off
+node 3 blocks 1 order 9 underused off
+node 4 blocks 1 order 9 underused off
+node 5 blocks 1 order 9 underused off
+node 6 blocks 1 order 9 underused off
+node 7 blocks 1 order 9 underused off
+node 8 blocks 1 order 9 underused off
+end
+";
+    expect_texts(&rt, rt.alloc(), &nodes, text);
+}

@@ -7,7 +7,7 @@ use crate::journals::histories::{
 use std::alloc::{AllocError, Global};
 use std::process::Abort;
 use thp_check::Misfit;
-use thp_history::{Event, PageId, Shape, SubSet, What};
+use thp_history::{Event, MAX_CALLERS, PageId, Shape, SubSet, What};
 use thp_journal_reader::{Illegal, LongCheck, read_journal};
 use thp_journal_writer::{
     NodeHistory, PutFault, Version, put_end, put_event, put_node, put_version,
@@ -178,6 +178,34 @@ fn event_below_its_version(rt: HostRuntime) {
             expect_too_low(&rt, put, Version::Underused, &text);
         }
     }
+}
+
+#[test]
+fn large_nodes_below_version_4(rt: HostRuntime) {
+    let rows = [
+        (7, large(Shape::MAX_BLOCKS), None),
+        (8, large(1), Some(Version::Large)),
+        (0, large(Shape::MAX_BLOCKS + 1), Some(Version::Large)),
+    ];
+    for (n, shape, least) in rows {
+        let mut text = Vec::new(rt.alloc());
+        let put = put_node(&mut text, Version::Underused, n, &shape);
+        match least {
+            None => assert!(rt; put.is_ok()),
+            Some(least) => expect_too_low(&rt, put, least, &text),
+        }
+        assert!(rt; put_node(&mut text, Version::Large, n, &shape).is_ok());
+    }
+}
+
+#[test]
+fn large_callers_below_version_4(rt: HostRuntime) {
+    let mut text = Vec::new(rt.alloc());
+    let put = put_event(&mut text, Version::Underused, &by(MAX_CALLERS, What::Close));
+    expect_too_low(&rt, put, Version::Large, &text);
+    let last = by(MAX_CALLERS - 1, What::Close);
+    assert!(rt; put_event(&mut text, Version::Underused, &last).is_ok());
+    assert!(rt; put_event(&mut text, Version::Large, &by(MAX_CALLERS, What::Close)).is_ok());
 }
 
 #[test]

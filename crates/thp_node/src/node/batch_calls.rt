@@ -1,6 +1,6 @@
 //! The shrinker's calls: a take, tries, a put back, and the scan that combines them.
 ghost use Rattle.std.specs.Prelude.{◌≡◌, ℕ, ◌+◌, ◌*◌, ◌<◌, ◌≤◌, Bool, true, false, ◌||◌, [], ◌∷◌, length, drop, take, slice_get, min, Option, None, Some, IsSome, IfOk, IfErr, IfSome, IfNone, OnOk, OnErr};
-ghost use Rattle.thp_history.specs.Prelude.{max_batch, max_callers, by, is_closed, IsLegal, queue, flight, no_pages, is_taking, has_page, refusal, take_events, split_next_events, put_back_events, scan_events, next_page, rest_after, still_flying, try_event, return_event, is_split_candidate, is_worth_split};
+ghost use Rattle.thp_history.specs.Prelude.{max_batch, max_node_callers, by, is_closed, IsLegal, queue, flight, no_pages, is_taking, has_page, refusal, take_events, split_next_events, put_back_events, scan_events, next_page, rest_after, still_flying, try_event, return_event, is_split_candidate, is_worth_split};
 ghost use Rattle.thp_history.specs.Refusals as call;
 ghost use Rattle.thp_node.specs.Batches.{rest, tried, IsInFront, FrontsStay, OtherFrontsStay, OlderAreInFront};
 ghost use Rattle.thp_node.specs.Calls.{Did, Refused};
@@ -17,7 +17,7 @@ impl<R: Recorder> Node<R> {
     /// Takes up to `n` of the oldest queued pages (at most 128), in order, into a batch of the caller. Fails with `HasBatch` if
     /// the caller has pages in flight, and with `OutOfMemory`.
     pub fn take(&mut self, caller: u32, n: u32) -> Result<Batch, Refusal>
-        requires caller { caller < max_callers }
+        requires caller { caller < max_node_callers }
         requires count { n ≤ max_batch }
         ensures allowed { OnOk result (refusal self.old.shape self.old.journal (call.take caller) ≡ None) }
         ensures batch { IfOk result (λ b. b ≡ record { caller = caller; pages = take n (queue self.old.shape self.old.journal); place = 0 }) }
@@ -36,7 +36,7 @@ impl<R: Recorder> Node<R> {
     /// Takes as `take` does, into a batch that the caller provides. On success the batch's former content is discarded; on error
     /// it is unchanged.
     pub fn take_into(&mut self, caller: u32, n: u32, batch: &mut Batch) -> Result<(), Refusal>
-        requires caller { caller < max_callers }
+        requires caller { caller < max_node_callers }
         requires count { n ≤ max_batch }
         ensures allowed { OnOk result (refusal self.old.shape self.old.journal (call.take caller) ≡ None) }
         ensures batch { OnOk result (batch.new ≡ record { caller = caller; pages = take n (queue self.old.shape self.old.journal); place = 0 }) }
@@ -55,7 +55,7 @@ impl<R: Recorder> Node<R> {
     // The number of pages that a take of up to `n` gets, with room in the journal for `each` events of each of them; or why it is
     // refused.
     pub(super) fn admit_take(&mut self, caller: u32, n: u32, each: u32) -> Result<u32, Refusal>
-        requires caller { caller < max_callers }
+        requires caller { caller < max_node_callers }
         requires count { n ≤ max_batch }
         requires each { each ≤ 3 }
         ensures count { IfOk result (λ k. k ≡ min n (length (queue self.old.shape self.old.journal))) }
@@ -77,7 +77,7 @@ impl<R: Recorder> Node<R> {
 
     // Takes the `count` oldest pages, for which there is room.
     pub(super) fn take_oldest(&mut self, caller: u32, count: u32, batch: &mut Batch)
-        requires caller { caller < max_callers }
+        requires caller { caller < max_node_callers }
         requires few { count ≤ max_batch }
         requires queued { count ≤ length (queue self.old.shape self.old.journal) }
         requires room { count ≤ self.old.room }
@@ -95,7 +95,7 @@ impl<R: Recorder> Node<R> {
 
     // Takes the oldest page of the queue.
     fn take_one(&mut self, caller: u32) -> PageId
-        requires caller { caller < max_callers }
+        requires caller { caller < max_node_callers }
         requires queued { 0 < length (queue self.old.shape self.old.journal) }
         requires room { 0 < self.old.room }
         requires may_take { (no_pages (flight self.old.journal caller) || is_taking self.old.journal caller) ≡ true }
@@ -139,7 +139,7 @@ impl<R: Recorder> Node<R> {
 
     // The first of some pages that is in a caller's flight: the number of pages before it, its block and its number.
     fn next_flying(&self, caller: u32, pages: &[PageId]) -> Option<(usize, u32, PageId)>
-        requires { caller < max_callers }
+        requires { caller < max_node_callers }
         ensures none { IfNone result (next_page self.now.journal caller pages.now ≡ None) }
         ensures page { IfSome result (λ f. next_page self.now.journal caller pages.now ≡ Some f.2) }
         ensures rest { IfSome result (λ f. rest_after self.now.journal caller pages.now ≡ drop (f.0 + 1) pages.now) }
@@ -182,7 +182,7 @@ impl<R: Recorder> Node<R> {
 
     // Tries the page of a block, which is in the caller's flight: removes it from the batch, splits it, or finds it pinned.
     fn try_page(&mut self, caller: u32, block: u32, page: PageId) -> Tried
-        requires caller { caller < max_callers }
+        requires caller { caller < max_node_callers }
         requires room { 0 < self.old.room }
         requires flies { IsFlyingAt self.old.table caller page block }
         ensures tried { result ≡ tried self.old.shape self.old.journal (Some page) }
@@ -205,7 +205,7 @@ impl<R: Recorder> Node<R> {
 
     // Splits the page of a block, which is in the caller's flight, is worth a split and has no pins.
     fn split_page(&mut self, caller: u32, block: u32, page: PageId)
-        requires caller { caller < max_callers }
+        requires caller { caller < max_node_callers }
         requires room { 0 < self.old.room }
         requires flies { IsFlyingAt self.old.table caller page block }
         requires worth { AtSlot self.old.table block (λ x. is_split_candidate self.old.shape.underused x.page ≡ true) }

@@ -1,6 +1,6 @@
 //! The calls about the node: an allocation, and the close.
 ghost use Rattle.std.specs.Prelude.{◌≡◌, ℕ, ◌<◌, [], ◌∷◌, None, IfOk, IfErr, OnOk};
-ghost use Rattle.thp_history.specs.Prelude.{max_callers, allocations, by, refusal};
+ghost use Rattle.thp_history.specs.Prelude.{max_node_callers, allocations, by, refusal};
 ghost use Rattle.thp_history.specs.Refusals as call;
 ghost use Rattle.thp_node.specs.Batches.{FrontsStay};
 ghost use Rattle.thp_node.specs.Calls.{Did, DidAlloc, Refused};
@@ -13,7 +13,7 @@ impl<R: Recorder> Node<R> {
     /// Allocates a page, mapped whole once, in a block that holds no live page. The page's number is the number of allocations
     /// before it. The page is queued if the shrinker looks for underused pages. Fails with `Closed`, `NoBlock` or `OutOfMemory`.
     pub fn alloc_page(&mut self, caller: u32) -> Result<PageId, Refusal>
-        requires { caller < max_callers }
+        requires { caller < max_node_callers }
         ensures allowed { OnOk result (refusal self.old.shape self.old.journal call.alloc_page ≡ None) }
         ensures number { IfOk result (λ p. p ≡ allocations self.old.journal) }
         ensures recorded { IfOk result (DidAlloc self.old self.new caller) }
@@ -37,7 +37,7 @@ impl<R: Recorder> Node<R> {
 
     /// Closes the node: no page is queued or allocated afterwards. Fails with `Closed` or `OutOfMemory`.
     pub fn close(&mut self, caller: u32) -> Result<(), Refusal>
-        requires { caller < max_callers }
+        requires { caller < max_node_callers }
         ensures allowed { OnOk result (refusal self.old.shape self.old.journal call.close ≡ None) }
         ensures recorded { OnOk result (Did self.old self.new caller (by caller What.Close ∷ [])) }
         ensures refused { IfErr result (Refused self.old self.new (refusal self.old.shape self.old.journal call.close) 1) }

@@ -1,6 +1,6 @@
 //! The calls about one page: its mappings, its pins, and writes to it.
 ghost use Rattle.std.specs.Prelude.{◌≡◌, ℕ, ◌<◌, ◌≤◌, [], ◌∷◌, None, Some, IfOk, IfErr, OnOk};
-ghost use Rattle.thp_history.specs.Prelude.{max_callers, by, outcome, released, refusal, gain_call, loss_call, page_call, gain_what, loss_what};
+ghost use Rattle.thp_history.specs.Prelude.{max_node_callers, by, outcome, released, refusal, gain_call, loss_call, page_call, gain_what, loss_what};
 ghost use Rattle.thp_history.specs.Refusals as call;
 ghost use Rattle.thp_node.specs.Batches.{FrontsStay};
 ghost use Rattle.thp_node.specs.Calls.{Did, Refused};
@@ -14,7 +14,7 @@ use thp_history::{Done, Gain, Loss, PageCall, PageId, Refusal, SplitContext, Wha
 impl<R: Recorder> Node<R> {
     /// Maps the whole page once more, by a PMD entry. Fails with `NoPage`, `IsSplit`, `TooMany` or `OutOfMemory`.
     pub fn map_whole(&mut self, caller: u32, page: PageId) -> Result<(), Refusal>
-        requires { caller < max_callers }
+        requires { caller < max_node_callers }
         ensures allowed { OnOk result (refusal self.old.shape self.old.journal (call.map_whole page) ≡ None) }
         ensures recorded { OnOk result (Did self.old self.new caller (by caller (What.MapWhole page) ∷ [])) }
         ensures refused { IfErr result (Refused self.old self.new (refusal self.old.shape self.old.journal (call.map_whole page)) 1) }
@@ -25,7 +25,7 @@ impl<R: Recorder> Node<R> {
 
     /// Removes one mapping of the whole page. Fails with `NoPage`, `IsSplit`, `NotMapped` or `OutOfMemory`.
     pub fn unmap_whole(&mut self, caller: u32, page: PageId) -> Result<Done, Refusal>
-        requires { caller < max_callers }
+        requires { caller < max_node_callers }
         ensures allowed { OnOk result (refusal self.old.shape self.old.journal (call.unmap_whole page) ≡ None) }
         ensures recorded { IfOk result (λ d. Did self.old self.new caller (by caller (What.UnmapWhole d.outcome page d.released) ∷ [])) }
         ensures outcome { IfOk result (λ d. d.outcome ≡ outcome self.old.shape self.old.journal self.new.journal page) }
@@ -45,7 +45,7 @@ impl<R: Recorder> Node<R> {
         first: u32,
         count: u32,
     ) -> Result<(), Refusal>
-        requires { caller < max_callers }
+        requires { caller < max_node_callers }
         ensures allowed { OnOk result (refusal self.old.shape self.old.journal (call.map_sub page first count) ≡ None) }
         ensures recorded { OnOk result (Did self.old self.new caller (by caller (What.MapSub page first count) ∷ [])) }
         ensures refused { IfErr result (Refused self.old self.new (refusal self.old.shape self.old.journal (call.map_sub page first count)) 1) }
@@ -66,7 +66,7 @@ impl<R: Recorder> Node<R> {
         first: u32,
         count: u32,
     ) -> Result<Done, Refusal>
-        requires { caller < max_callers }
+        requires { caller < max_node_callers }
         ensures allowed { OnOk result (refusal self.old.shape self.old.journal (call.unmap_sub page first count) ≡ None) }
         ensures recorded { IfOk result (λ d. Did self.old self.new caller (by caller (What.UnmapSub d.outcome page first count d.released) ∷ [])) }
         ensures outcome { IfOk result (λ d. d.outcome ≡ outcome self.old.shape self.old.journal self.new.journal page) }
@@ -80,7 +80,7 @@ impl<R: Recorder> Node<R> {
     /// Replaces one mapping of the whole page by one of each subpage, even if the page has pins. Fails with `NoPage`, `IsSplit`,
     /// `NotMapped` or `OutOfMemory`.
     pub fn split_pmd(&mut self, caller: u32, page: PageId) -> Result<(), Refusal>
-        requires { caller < max_callers }
+        requires { caller < max_node_callers }
         ensures allowed { OnOk result (refusal self.old.shape self.old.journal (call.split_pmd page) ≡ None) }
         ensures recorded { OnOk result (Did self.old self.new caller (by caller (What.SplitPmd page) ∷ [])) }
         ensures refused { IfErr result (Refused self.old self.new (refusal self.old.shape self.old.journal (call.split_pmd page)) 1) }
@@ -91,7 +91,7 @@ impl<R: Recorder> Node<R> {
 
     /// Adds a pin, which prevents the page from being split. Fails with `NoPage`, `IsSplit`, `TooMany` or `OutOfMemory`.
     pub fn pin(&mut self, caller: u32, page: PageId) -> Result<(), Refusal>
-        requires { caller < max_callers }
+        requires { caller < max_node_callers }
         ensures allowed { OnOk result (refusal self.old.shape self.old.journal (call.pin page) ≡ None) }
         ensures recorded { OnOk result (Did self.old self.new caller (by caller (What.Pin page) ∷ [])) }
         ensures refused { IfErr result (Refused self.old self.new (refusal self.old.shape self.old.journal (call.pin page)) 1) }
@@ -102,7 +102,7 @@ impl<R: Recorder> Node<R> {
 
     /// Removes a pin, which can free the page. Fails with `NoPage`, `IsSplit`, `NotPinned` or `OutOfMemory`.
     pub fn unpin(&mut self, caller: u32, page: PageId) -> Result<Done, Refusal>
-        requires { caller < max_callers }
+        requires { caller < max_node_callers }
         ensures allowed { OnOk result (refusal self.old.shape self.old.journal (call.unpin page) ≡ None) }
         ensures recorded { IfOk result (λ d. Did self.old self.new caller (by caller (What.Unpin d.outcome page d.released) ∷ [])) }
         ensures outcome { IfOk result (λ d. d.outcome ≡ outcome self.old.shape self.old.journal self.new.journal page) }
@@ -122,7 +122,7 @@ impl<R: Recorder> Node<R> {
         first: u32,
         count: u32,
     ) -> Result<(), Refusal>
-        requires { caller < max_callers }
+        requires { caller < max_node_callers }
         ensures allowed { OnOk result (refusal self.old.shape self.old.journal (call.write page first count) ≡ None) }
         ensures recorded { OnOk result (Did self.old self.new caller (by caller (What.Write page first count) ∷ [])) }
         ensures refused { IfErr result (Refused self.old self.new (refusal self.old.shape self.old.journal (call.write page first count)) 1) }
@@ -134,7 +134,7 @@ impl<R: Recorder> Node<R> {
     /// Records that zeros are written to each of the `count` subpages from `first` on, which are zero-filled afterwards. Fails as
     /// `write` does.
     pub fn zero(&mut self, caller: u32, page: PageId, first: u32, count: u32) -> Result<(), Refusal>
-        requires { caller < max_callers }
+        requires { caller < max_node_callers }
         ensures allowed { OnOk result (refusal self.old.shape self.old.journal (call.zero_fill page first count) ≡ None) }
         ensures recorded { OnOk result (Did self.old self.new caller (by caller (What.Zero page first count) ∷ [])) }
         ensures refused { IfErr result (Refused self.old self.new (refusal self.old.shape self.old.journal (call.zero_fill page first count)) 1) }
@@ -147,7 +147,7 @@ impl<R: Recorder> Node<R> {
     /// `split_pmd`, `pin`, `write` or `zero`. Inlined, as `lose` is, so that a call of a known kind executes that kind only.
     #[inline(always)]
     pub fn gain(&mut self, caller: u32, page: PageId, gain: Gain) -> Result<(), Refusal>
-        requires { caller < max_callers }
+        requires { caller < max_node_callers }
         ensures allowed { OnOk result (refusal self.old.shape self.old.journal (gain_call gain page) ≡ None) }
         ensures recorded { OnOk result (Did self.old self.new caller (by caller (gain_what gain page) ∷ [])) }
         ensures refused { IfErr result (Refused self.old self.new (refusal self.old.shape self.old.journal (gain_call gain page)) 1) }
@@ -164,7 +164,7 @@ impl<R: Recorder> Node<R> {
     /// `unmap_sub` or `unpin`.
     #[inline(always)]
     pub fn lose(&mut self, caller: u32, page: PageId, loss: Loss) -> Result<Done, Refusal>
-        requires { caller < max_callers }
+        requires { caller < max_node_callers }
         ensures allowed { OnOk result (refusal self.old.shape self.old.journal (loss_call loss page) ≡ None) }
         ensures recorded { IfOk result (λ d. Did self.old self.new caller (by caller (loss_what loss page d.outcome d.released) ∷ [])) }
         ensures outcome { IfOk result (λ d. d.outcome ≡ outcome self.old.shape self.old.journal self.new.journal page) }

@@ -1,6 +1,6 @@
 //! The calls by which pages leave a batch together: a put back, and the scan, which is a take, tries and a put back.
 ghost use Rattle.std.specs.Prelude.{◌≡◌, not, ◌&&◌, ℕ, ◌*◌, ◌<◌, ◌≤◌, [], ◌∷◌, length, map, take, count_by, slice_get, None, Some, IfOk, IfErr, OnOk};
-ghost use Rattle.thp_history.specs.Prelude.{max_batch, max_callers, IsLegal, flight, refusal, take_events, put_back_events, scan_events, still_flying, try_event, return_event, goes_back};
+ghost use Rattle.thp_history.specs.Prelude.{max_batch, max_node_callers, IsLegal, flight, refusal, take_events, put_back_events, scan_events, still_flying, try_event, return_event, goes_back};
 ghost use Rattle.thp_history.specs.Refusals as call;
 ghost use Rattle.thp_node.specs.Batches.{back_reply, scan_reply, IsInFront, FrontsStay};
 ghost use Rattle.thp_node.specs.Calls.{Did, Refused};
@@ -71,7 +71,7 @@ impl<R: Recorder> Node<R> {
     // Returns the first pages of a caller's flight, which are in these blocks and for which there is room. The result is the
     // number of pages that went back to the queue.
     fn return_all(&mut self, caller: u32, blocks: &[u32]) -> u32
-        requires caller { caller < max_callers }
+        requires caller { caller < max_node_callers }
         requires legal { IsLegal self.old.shape self.old.journal }
         requires front { BeginsIn self.old.journal caller blocks.now }
         requires room { length blocks.now ≤ self.old.room }
@@ -88,7 +88,7 @@ impl<R: Recorder> Node<R> {
 
     // Returns the first page of a caller's flight, which is in this block. The result is whether it went back to the queue.
     fn return_first(&mut self, caller: u32, block: u32) -> bool
-        requires caller { caller < max_callers }
+        requires caller { caller < max_node_callers }
         requires room { 0 < self.old.room }
         requires front { BeginsIn self.old.journal caller (block ∷ []) }
         ensures back { OneBack self.old.shape self.old.journal caller result }
@@ -100,7 +100,7 @@ impl<R: Recorder> Node<R> {
 
     // Returns the page of a block, which is the first of the caller's flight. The result is whether it went back to the queue.
     fn return_page(&mut self, caller: u32, block: u32, page: PageId) -> bool
-        requires caller { caller < max_callers }
+        requires caller { caller < max_node_callers }
         requires room { 0 < self.old.room }
         requires flies { IsFlyingAt self.old.table caller page block }
         requires first { slice_get (flight self.old.journal caller) 0 ≡ Some page }
@@ -128,7 +128,7 @@ impl<R: Recorder> Node<R> {
     /// Reserves room for three events for each page first. Fails with `OutOfMemory` if that is not possible, and then changes
     /// nothing.
     pub fn scan(&mut self, caller: u32, n: u32) -> Result<ScanReply, Refusal>
-        requires caller { caller < max_callers }
+        requires caller { caller < max_node_callers }
         requires count { n ≤ max_batch }
         ensures allowed { OnOk result (refusal self.old.shape self.old.journal (call.scan caller) ≡ None) }
         ensures recorded { OnOk result (Did self.old self.new caller (scan_events self.old.shape self.old.journal caller n)) }

@@ -3,4 +3,4 @@ use Rattle.std.proofs.Common.{◌≡◌, length}
 use Rattle.tests_pages.proofs.table.fill_alike.Given as goal
 
 abbrev pub invariant-loop-block : goal.invariant-loop-block
-invariant-loop-block g l = length l.table.links ≡ 4096
+invariant-loop-block g l = length l.table.links ≡ 20000

@@ -1,4 +1,4 @@
 use Rattle.thp_journal_reader.proofs.event_line.caller_number.Goals as goal
 
 pub returns : goal.returns
-returns c = c.small_number.ensures.value
+returns c = rw c.limits.ensures at c.small_number.ensures.value

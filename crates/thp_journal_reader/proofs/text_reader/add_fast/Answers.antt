@@ -16,7 +16,7 @@ loop-event-preserved g c =
     let P : ℕ → Type 0 = λ k. g.N.KeepsNodes.goes_along (k + 1) c.add.new.self in
     record {
       reports = λ more. rw (is, added, c.in-Inside.is)
-          (ap (result_after l.text more) (sym (event_reports (reported l.nodes) c.in-Inside.version c.in-Inside.count l.text.line l.text.begun l.rest.now more after c.in-Some.event a some l.invariant.begins)))
+          (ap (result_after l.text more) (sym (event_reports (reported l.nodes) c.in-Inside.accepted c.in-Inside.version c.in-Inside.count l.text.line l.text.begun l.rest.now more after c.in-Some.event a some l.invariant.begins)))
           ∙ l.invariant.reports more;
       counted = rw is (record { lines = omega (arith, l.invariant.counted.lines, a.shorter); most = omega (arith, l.invariant.counted.most, a.shorter) });
       along = rw is (subst P c.last_line-number.ensures.number c.in_ok-add.ensures.along);

@@ -3,7 +3,7 @@ use Rattle.std.specs.Io.KnownBytes.{Appends}
 use Rattle.thp_cli.proofs.CallLaws.{reading_more, reading_none, reads_by}
 use Rattle.thp_cli.proofs.DeviceLaws.{read_all, read_beyond, read_more, read_nothing}
 use Rattle.thp_script.specs.Prelude.{max_counted}
-use Rattle.thp_journal_reader.specs.Prelude.{journals_within}
+use Rattle.thp_journal_reader.specs.Prelude.{journals_for_scripts}
 use Rattle.thp_journal_tools.proofs.ScriptLaws.{appends_more, appends_none, grows_more, grows_none}
 use Rattle.thp_journal_tools.proofs.scripting.write_parts.Goals as goal
 
@@ -33,7 +33,7 @@ loop-count-preserved g c =
         t.0 ++ piece,
         read_more (remaining c.args.reader.now.device) (remaining c.loop-count.reader.device) (remaining c.read.new.self.device) t.0 piece t.1 read.1,
         omega (arith, length-append t.0 piece, length-take-le c.in-Some.count c.read.new.buf read.0, t.2, c.if-count-left.false),
-        λ more. c.in_ok-check.ensures.read more ∙ t.3 (piece ++ more) ∙ ap (journals_within max_counted) (sym (append_assoc t.0 piece more)),
+        λ more. c.in_ok-check.ensures.read more ∙ t.3 (piece ++ more) ∙ ap journals_for_scripts (sym (append_assoc t.0 piece more)),
       );
       flag = (rw c.in-Some.is at c.read.ensures.flag_stays) ∙ c.loop-count.invariant.flag;
       calls = reading_more max_counted c.loop-count.left c.in-Some.count _ c.args.reader.now.calls c.loop-count.reader.calls c.read.new.self.calls c.loop-count.invariant.calls (omega (arith, c.if-count-eq0.false)) (omega (arith, c.if-count-left.false)) (search rules) (rw c.in-Some.is at c.read.ensures.calls);
@@ -47,7 +47,7 @@ returns-then-count-eq0-clause-parts g c =
     let remaining = g.R.Read.remaining in
     let t = c.loop-count.invariant.taken in
     let read = rw c.in-Some.is at c.read.ensures.bytes in
-    (t.0, read_all max_counted (remaining c.args.reader.now.device) (remaining c.loop-count.reader.device) (remaining c.read.new.self.device) t.0 _ t.1 read.1 (rw c.if-count-eq0.true refl) (search rules), t.3 [] ∙ ap (journals_within max_counted) (append-nil t.0))
+    (t.0, read_all max_counted (remaining c.args.reader.now.device) (remaining c.loop-count.reader.device) (remaining c.read.new.self.device) t.0 _ t.1 read.1 (rw c.if-count-eq0.true refl) (search rules), t.3 [] ∙ ap journals_for_scripts (append-nil t.0))
 
 pub returns-then-count-left-clause-parts : goal.returns-then-count-left-clause-parts
 returns-then-count-left-clause-parts g c =
@@ -59,7 +59,7 @@ returns-then-count-left-clause-parts g c =
       read_beyond max_counted (remaining c.args.reader.now.device) (remaining c.read.new.self.device) (t.0 ++ piece)
           (read_more (remaining c.args.reader.now.device) (remaining c.loop-count.reader.device) (remaining c.read.new.self.device) t.0 piece t.1 read.1)
           (omega (arith, length-append t.0 piece, length-take-le c.in-Some.count c.read.new.buf read.0, t.2, c.if-count-left.true)),
-      c.in_ok-check.ensures.read [] ∙ t.3 (piece ++ []) ∙ ap (journals_within max_counted) (sym (append_assoc t.0 piece []) ∙ append-nil (t.0 ++ piece)),
+      c.in_ok-check.ensures.read [] ∙ t.3 (piece ++ []) ∙ ap journals_for_scripts (sym (append_assoc t.0 piece []) ∙ append-nil (t.0 ++ piece)),
     )
 
 pub returns-then-count-left-clause-grows : goal.returns-then-count-left-clause-grows

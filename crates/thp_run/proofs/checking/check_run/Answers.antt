@@ -2,6 +2,7 @@ use Rattle.std.proofs.Common.{◌≡◌, ◌∙◌, ◌++◌, [], ap, append-nil
 use Rattle.std.proofs.lemmas.Result.{err_from_is_err_and}
 use Rattle.thp_script.specs.Prelude.{max_input}
 use Rattle.thp_journal_reader.specs.Prelude.{journals_of, result_with, verdict_text}
+use Rattle.thp_journal_reader.specs.declared.line.Accepted.TheVariants.{UpToVersion3}
 use Rattle.thp_journal_reader.proofs.AnswerLaws.{free_choice}
 use Rattle.thp_cli.proofs.PassageLaws.{none_at_fault}
 use Rattle.thp_run.proofs.CheckLaws.{check_ends_cut, check_ends_early, check_ends_written, cut_from, legal_is}
@@ -25,7 +26,7 @@ returns-in_err-ok_or-clause-ends g c =
     let spelled : journals_of read.0 ≡ Ok line.0 = sym reported ∙ line.1 in
     check_ends_cut (g.R.Read.remaining c.args.reader.now.device) (g.W.Write.contents c.args.writer.now.device) (g.W.Write.contents c.write_text.new.writer.device) read.0 c.as_bytes.result.now
     c.read_parts.new.reader.failed c.write_text.new.writer.failed c.in_ok-illegal.illegal c.write_text.result c.from_residual-in_err-ok_or.result read.1
-    (record { journals = line.0; spelled = spelled; illegal = c.in_ok-illegal.illegal; reported = line.2; free_choice = λ can. free_choice max_input read.0 line.0 c.in_ok-illegal.illegal spelled line.2 line.0 spelled can; answer = refl; written = c.as_bytes.ensures.value ∙ c.as_str.ensures.value ∙ c.verdict-text.ensures ∙ ap verdict_text c.widened.ensures })
+    (record { journals = line.0; spelled = spelled; illegal = c.in_ok-illegal.illegal; reported = line.2; free_choice = λ can. free_choice UpToVersion3 max_input read.0 line.0 c.in_ok-illegal.illegal spelled line.2 line.0 spelled can; answer = refl; written = c.as_bytes.ensures.value ∙ c.as_str.ensures.value ∙ c.verdict-text.ensures ∙ ap verdict_text c.widened.ensures })
     cut.0 c.write_text.ensures.cut c.write_text.ensures.failed c.in_ok-check.ensures.flag (p.1 ∙ ap (λ fault. Err fault) (p.2 ∙ sym cut.1))
 
 pub returns-clause-ends : goal.returns-clause-ends
@@ -36,7 +37,7 @@ returns-clause-ends g c =
     let spelled : journals_of read.0 ≡ Ok line.0 = sym reported ∙ line.1 in
     check_ends_written (g.R.Read.remaining c.args.reader.now.device) (g.W.Write.contents c.args.writer.now.device) (g.W.Write.contents c.write_text.new.writer.device) read.0 c.as_bytes.result.now
     c.read_parts.new.reader.failed c.write_text.new.writer.failed c.in_ok-illegal.illegal c.write_text.result c.in_ok-ok_or.field-0 c.is_none.result read.1
-    (record { journals = line.0; spelled = spelled; illegal = c.in_ok-illegal.illegal; reported = line.2; free_choice = λ can. free_choice max_input read.0 line.0 c.in_ok-illegal.illegal spelled line.2 line.0 spelled can; answer = refl; written = c.as_bytes.ensures.value ∙ c.as_str.ensures.value ∙ c.verdict-text.ensures ∙ ap verdict_text c.widened.ensures })
+    (record { journals = line.0; spelled = spelled; illegal = c.in_ok-illegal.illegal; reported = line.2; free_choice = λ can. free_choice UpToVersion3 max_input read.0 line.0 c.in_ok-illegal.illegal spelled line.2 line.0 spelled can; answer = refl; written = c.as_bytes.ensures.value ∙ c.as_str.ensures.value ∙ c.verdict-text.ensures ∙ ap verdict_text c.widened.ensures })
     (sym c.ok_or.ensures.value ∙ c.in_ok-ok_or.was) c.write_text.ensures.written c.write_text.ensures.flag c.in_ok-check.ensures.flag (legal_is c.in_ok-illegal.illegal c.is_none.result c.is_none.ensures)
 
 pub returns-in_err-illegal-clause-writes : goal.returns-in_err-illegal-clause-writes

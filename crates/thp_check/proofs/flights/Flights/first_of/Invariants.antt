@@ -6,6 +6,6 @@ use Rattle.thp_check.proofs.flights.Flights.first_of.Given as goal
 -- the pages passed are of other callers, and the next one lies in this block
 abbrev pub invariant-loop-place : goal.invariant-loop-place
 invariant-loop-place l = record {
-  next : l.block ≡ get_or (list_at l.self.lists (l.caller % 64)) l._place NIL;
-  passed : filter (λ b. nat_eq (caller_at l.self.callers b) l.caller) (take l._place (list_at l.self.lists (l.caller % 64))) ≡ [];
+  next : l.block ≡ get_or (list_at l.self.lists (l.caller % 4096)) l._place NIL;
+  passed : filter (λ b. nat_eq (caller_at l.self.callers b) l.caller) (take l._place (list_at l.self.lists (l.caller % 4096))) ≡ [];
 }

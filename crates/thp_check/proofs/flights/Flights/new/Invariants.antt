@@ -5,5 +5,5 @@ use Rattle.thp_check.proofs.flights.Flights.new.Given as goal
 abbrev pub invariant-loop-list : goal.invariant-loop-list
 invariant-loop-list l = record {
   none : ◌≡◌ {A = List (List ℕ)} l.lists.items (replicate l._list []);
-  room : 64 ≤ vec_capacity l.lists;
+  room : 4096 ≤ vec_capacity l.lists;
 }

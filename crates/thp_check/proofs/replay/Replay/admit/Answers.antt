@@ -33,7 +33,7 @@ invariant_of-self c =
     let freed = c.freed_block-freed.ensures s i.past (subst M (sym c.deref.ensures) c.self.invariant.0) in
     let went = c.in_ok-admit.ensures s i.past (subst M (sym c.deref_mut.ensures.value) c.self.invariant.0) in
     let marks : MarksFree s (i.past ++ e ∷ []) c.mark.new.free =
-    marks_push s i.past e c.self.invariant.0.kept.node.legal went.0 i.free c.mark.new.free c.freed_block-freed.result c.self.invariant.1 freed c.mark.ensures.size
+    marks_push s i.past e c.self.invariant.0.kept.node.legal went.0 i.free c.mark.new.free c.freed_block-freed.result c.self.invariant.1 freed c.mark.ensures.blocks
     c.mark.ensures.marked in
     let context = c.context_of-context.ensures s i.past e.caller (subst M (sym c.deref-2.ensures) c.self.invariant.0) went.0 in
     let adds : AddsUp s (i.past ++ e ∷ []) c.count.new.self =

@@ -5,5 +5,5 @@ use Rattle.thp_journal_reader.proofs.journals.OptionNodesKeepsNodes.add.Goals as
 pub returns-in_ok-push-in-Happened-clause-along : goal.returns-in_ok-push-in-Happened-clause-along
 returns-in_ok-push-in-Happened-clause-along c = record {
   along = c.in_ok-push-in-Happened.ensures.along;
-  each = each_step c.args.number (nodes_in c.args.self.now) (nodes_in c.push.new.nodes) (Happened c.in-Happened.event) c.in_ok-push-in-Happened.ensures.nodes tt c.requires.along.each;
+  each = each_step 4096 c.args.number (nodes_in c.args.self.now) (nodes_in c.push.new.nodes) (Happened c.in-Happened.event) c.in_ok-push-in-Happened.ensures.nodes tt c.requires.along.each;
 }

@@ -11,4 +11,4 @@ invariant_of-result c =
     (rw (line, c.new-2.ensures.nodes) c.new.ensures.follows, subst R (sym c.new-2.ensures.text) c.requires.counted)
 
 pub returns-clause-reported : goal.returns-clause-reported
-returns-clause-reported c = λ more. rw (c.new-2.ensures.nodes, c.new.ensures.lines, reported_none, c.new-2.ensures.place, c.new-2.ensures.text, c.requires.nothing) (reports_all c.args.text.most more)
+returns-clause-reported c = λ more. rw (c.new-2.ensures.nodes, c.new.ensures.lines, reported_none, c.new-2.ensures.place, c.new-2.ensures.text, c.requires.nothing) (reports_all c.args.accepted c.args.text.most more)

@@ -2,13 +2,19 @@ use Rattle.std.proofs.Common.{◌≡◌, ◌∙◌, ◌++◌, ◌∷◌, ℕ, ap
 use Rattle.thp_script.specs.Prelude.{after_line, result_after, with_begun, with_fault, TextSoFar, Text, lines_of}
 use Rattle.thp_script.proofs.PartReadLaws.{part_begins}
 use Rattle.thp_script.proofs.TextLaws.{fault_comes, line_begins, noted}
-use Rattle.thp_journal_reader.specs.Prelude.{line_in, result_of_lines, with_line}
+use Rattle.thp_journal_reader.specs.Prelude.{line_in, result_of_lines, version_at, with_line}
+use Rattle.thp_journal_reader.proofs.NodeLaws.{version_now}
 use Rattle.thp_journal_reader.proofs.PartLaws.{line_is_wrong, line_reports}
 use Rattle.thp_journal_reader.proofs.text_reader.TextReader.read_part.Goals as goal
 use Rattle.thp_journal_reader.proofs.text_reader.TextReader.read_part.Goals.{in-Some+in-Err, in_default}
 
 abbrev most_of : TextSoFar → ℕ
 most_of t = t.most
+
+pub add-requires-clause-in_range : goal.add-requires-clause-in_range
+add-requires-clause-in_range g c =
+    let l = c.loop-text in
+    (version_at l.place, l.invariant.allows (version_at l.place) (version_now l.place), c.in-Ok.ensures.in_range)
 
 pub loop-text-init : goal.loop-text-init
 loop-text-init g c =
@@ -20,6 +26,7 @@ loop-text-init g c =
       counted = c.in_ok-rest.ensures.counted;
       along = c.in_ok-rest.ensures.along;
       limit = c.in_ok-rest.ensures.most ∙ ap most_of part.ensures.part;
+      allows = c.requires.allows;
       taken = c.in_ok-rest.ensures.taken;
     }
 
@@ -43,6 +50,7 @@ loop-text-preserved g c =
       counted = c.in_ok-rest-in-Ok.ensures.counted;
       along = c.in_ok-rest-in-Ok.ensures.along;
       limit = c.in_ok-rest-in-Ok.ensures.most ∙ rw after l.invariant.limit;
+      allows = λ v may. l.invariant.allows v (c.in-Ok.ensures.within v (rw c.place_after-place.ensures at may));
       taken = c.in_ok-rest-in-Ok.ensures.taken ∙ c.in_ok-add-in-Ok.ensures.taken ∙ l.invariant.taken;
     }
 

@@ -1,6 +1,6 @@
 use Rattle.std.proofs.Common.{◌≡◌, ◌++◌, length}
 use Rattle.thp_script.specs.Prelude.{result_after, IsCounted, Text}
-use Rattle.thp_journal_reader.specs.Prelude.{result_of_lines, result_with, so_far}
+use Rattle.thp_journal_reader.specs.Prelude.{result_of_lines, result_with, so_far, AllowsVersionsAt}
 use Rattle.thp_journal_reader.proofs.text_reader.TextReader.read_part.Given as goal
 
 abbrev pub decreases-loop-text : goal.decreases-loop-text
@@ -15,5 +15,6 @@ invariant-loop-text g l =
       counted : IsCounted l.rest l.text;
       along : g.N.KeepsNodes.goes_along l.text.line l.nodes;
       limit : l.text.most ≡ l.fn.self.text.most;
+      allows : AllowsVersionsAt g.N.KeepsNodes.allows l.place;
       taken : g.N.KeepsNodes.taken l.nodes ≡ g.N.KeepsNodes.taken l.fn.self.nodes;
     }

@@ -1,6 +1,7 @@
 use Rattle.std.proofs.Common.{◌≡◌, ◌≤◌, ◌∙◌, List, ap, arith, subst, sym}
 use Rattle.thp_script.specs.Prelude.{max_counted, TextSoFar}
 use Rattle.thp_journal_reader.specs.Prelude.{nodes_read}
+use Rattle.thp_journal_reader.specs.declared.line.Accepted.TheVariants.{ForScripts}
 use Rattle.thp_journal_scripts.specs.Prelude.{IsScripting}
 use Rattle.thp_journal_reader.specs.declared.journals.ReadNode.{ReadNode}
 use Rattle.thp_journal_reader.proofs.CheckLaws.{reported_none}
@@ -19,4 +20,4 @@ invariant_of-result c =
     )
 
 pub returns-clause-reports : goal.returns-clause-reports
-returns-clause-reports c = λ text. rw (c.new-2.ensures.nodes, c.new.ensures.lines, reported_none, c.new-2.ensures.place, c.new-2.ensures.text, c.unlimited.ensures) (reports_all max_counted text)
+returns-clause-reports c = λ text. rw (c.new-2.ensures.nodes, c.new.ensures.lines, reported_none, c.new-2.ensures.place, c.new-2.ensures.text, c.unlimited.ensures) (reports_all ForScripts max_counted text)

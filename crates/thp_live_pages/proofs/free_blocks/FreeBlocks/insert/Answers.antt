@@ -1,14 +1,14 @@
-use Rattle.std.proofs.Common.{◌≡◌, ℕ, ◌<◌, ◌*◌, ◌/◌, ◌%◌, ◌^◌, true, cond, nat_eq, length, set, arith, ap, subst, sym, ◌∙◌, List, bit_or}
-use Rattle.std.proofs.lemmas.List.{get_or_default}
-use Rattle.thp_history.specs.Prelude.{in_words}
-use Rattle.thp_live_pages.proofs.FreeWords.{in-with}
+use Rattle.std.proofs.Common.{◌≡◌, ◌∙◌, ℕ, cond, nat_eq, true, refl, ap, sym, subst, arith}
+use Rattle.thp_live_pages.specs.FreeSets.{FreeSet, has_block}
+use Rattle.thp_live_pages.proofs.FreeSets.{changed_used, inserted_unused}
 use Rattle.thp_live_pages.proofs.free_blocks.FreeBlocks.insert.Goals as goal
 
-pub returns-clause-with_it : goal.returns-clause-with_it
-returns-clause-with_it c = λ b.
-    let ws : List ℕ = c.self.inside.words.items in
-    let same : ws ≡ c.args.self.now = c.self.view_is in
-    let inside : c.args.block / 64 < length ws = omega (arith, ap length same) in
-    let P : ℕ → Type 0 = λ w. in_words (set ws (c.args.block / 64) (bit_or w (1 * 2 ^ (c.args.block % 64) % 2 ^ 64))) b ≡ cond (nat_eq b c.args.block) true (in_words ws b) in
-    subst P (sym (c.index_mut.ensures.value ∙ get_or_default ws (c.args.block / 64) c.index_mut.result.now 0 inside)) (in-with ws c.args.block b inside)
-    ∙ ap (λ us. cond (nat_eq b c.args.block) true (in_words us b)) same
+pub returns-then-block-self-clause-with_it : goal.returns-then-block-self-clause-with_it
+returns-then-block-self-clause-with_it c = λ b.
+    let old : FreeSet = record { blocks = c.self.inside.count; used = c.self.inside.used; freed = c.self.inside.freed } in
+    changed_used old _ c.args.block b true refl refl c.if-block-self.true c.insert.ensures.with_it
+    ∙ ap (λ (f : FreeSet). cond (nat_eq b c.args.block) true (has_block f b)) c.self.view_is
+
+pub returns-else-block-self-clause-with_it : goal.returns-else-block-self-clause-with_it
+returns-else-block-self-clause-with_it c = λ b.
+    inserted_unused c.args.self.now c.args.block b (omega (arith, c.if-block-self.false, ap (λ (f : FreeSet). f.used) c.self.view_is)) c.requires

@@ -1,15 +1,16 @@
-use Rattle.std.proofs.Common.{◌≡◌, ℕ, ◌<◌, ◌*◌, ◌/◌, ◌%◌, ◌^◌, false, cond, nat_eq, length, set, arith, ap, subst, sym, ◌∙◌, List, bit_and}
-use Rattle.std.specs.Int.{w64, bit_not}
-use Rattle.std.proofs.lemmas.List.{get_or_default}
-use Rattle.thp_history.specs.Prelude.{in_words}
-use Rattle.thp_live_pages.proofs.FreeWords.{in-without}
+use Rattle.std.proofs.Common.{◌≡◌, ◌∙◌, ℕ, cond, nat_eq, false, refl, ap, arith}
+use Rattle.thp_live_pages.specs.FreeSets.{FreeSet, has_block}
+use Rattle.thp_live_pages.proofs.FreeSets.{changed_used, removed_unused}
 use Rattle.thp_live_pages.proofs.free_blocks.FreeBlocks.remove.Goals as goal
 
-pub returns-clause-without_it : goal.returns-clause-without_it
-returns-clause-without_it c = λ b.
-    let ws : List ℕ = c.self.inside.words.items in
-    let same : ws ≡ c.args.self.now = c.self.view_is in
-    let inside : c.args.block / 64 < length ws = omega (arith, ap length same) in
-    let P : ℕ → Type 0 = λ w. in_words (set ws (c.args.block / 64) (bit_and w (bit_not w64 (1 * 2 ^ (c.args.block % 64) % 2 ^ 64)))) b ≡ cond (nat_eq b c.args.block) false (in_words ws b) in
-    subst P (sym (c.index_mut.ensures.value ∙ get_or_default ws (c.args.block / 64) c.index_mut.result.now 0 inside)) (in-without ws c.args.block b inside)
-    ∙ ap (λ us. cond (nat_eq b c.args.block) false (in_words us b)) same
+pub returns-then-block-self-clause-without_it : goal.returns-then-block-self-clause-without_it
+returns-then-block-self-clause-without_it c = λ b.
+    let old : FreeSet = record { blocks = c.self.inside.count; used = c.self.inside.used; freed = c.self.inside.freed } in
+    changed_used old _ c.args.block b false refl refl c.if-block-self.true c.remove.ensures.without_it
+    ∙ ap (λ (f : FreeSet). cond (nat_eq b c.args.block) false (has_block f b)) c.self.view_is
+
+pub returns-else-block-self-clause-without_it : goal.returns-else-block-self-clause-without_it
+returns-else-block-self-clause-without_it c = λ b.
+    let old : FreeSet = record { blocks = c.self.inside.count; used = c.self.inside.used; freed = c.self.inside.freed } in
+    removed_unused old _ c.args.block b c.self.invariant refl refl (omega (arith, c.if-block-self.false)) (omega (arith, c.requires, ap (λ (f : FreeSet). f.blocks) c.self.view_is)) c.insert_between.ensures.with_them
+    ∙ ap (λ (f : FreeSet). cond (nat_eq b c.args.block) false (has_block f b)) c.self.view_is

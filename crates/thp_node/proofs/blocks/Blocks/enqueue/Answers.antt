@@ -6,7 +6,7 @@ use Rattle.thp_node.proofs.blocks.Blocks.enqueue.Goals as goal
 
 pub invariant_of-self : goal.invariant_of-self
 invariant_of-self c =
-    chain_stays c.args.self.now c.self.inside.places c.enqueue.new.self c.self.inside.free c.args.block c.self.invariant c.self.view_is c.requires.occupied
+    chain_stays c.args.self.now c.self.inside.places c.enqueue.new.self c.self.inside.used c.self.inside.count c.self.inside.free c.args.block c.self.invariant c.self.view_is c.requires.occupied
     (λ x at. record { slot = record x { standing = Queued }; queue = c.self.inside.places.queue ++ c.args.block ∷ []; most = 4; edits = c.enqueue.ensures x at })
 
 pub returns : goal.returns

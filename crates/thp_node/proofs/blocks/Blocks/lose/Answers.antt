@@ -27,12 +27,12 @@ push_free-requires-clause-empty c =
 pub invariant_of-self-in-Freed : goal.invariant_of-self-in-Freed
 invariant_of-self-in-Freed c =
     let w = freed_there c.args.loss c.args.closed c.args.self.now c.self.inside.places c.lose.new.self c.args.block c.lose.new.done c.in_ok-left.left c.self.view_is c.requires.occupied c.in_ok-left.ensures.lost c.in-Freed.is in
-    chain_pushed c.self.inside.places c.lose.new.self c.push_free.new.self c.self.inside.free c.push_free.new.chain c.args.block w.slot w.queue 6 c.self.invariant w.at w.edits
+    chain_pushed c.self.inside.places c.lose.new.self c.push_free.new.self c.self.inside.used c.self.inside.count c.self.inside.free c.push_free.new.chain c.args.block w.slot w.queue 6 c.self.invariant w.at w.edits
     c.push_free.ensures.list c.push_free.ensures.chain c.push_free.ensures.same
 
 pub invariant_of-self-in_default : goal.invariant_of-self-in_default
 invariant_of-self-in_default c =
-    chain_stays c.args.self.now c.self.inside.places c.lose.new.self c.self.inside.free c.args.block c.self.invariant c.self.view_is c.requires.occupied
+    chain_stays c.args.self.now c.self.inside.places c.lose.new.self c.self.inside.used c.self.inside.count c.self.inside.free c.args.block c.self.invariant c.self.view_is c.requires.occupied
     (λ x at. loss_keeps c.args.loss c.args.closed x c.self.inside.places c.lose.new.self c.args.block c.lose.new.done c.in_ok-left.left (c.in_ok-left.ensures.lost x at) c.in_default.not-Freed)
 
 pub returns-in_default-clause-lost : goal.returns-in_default-clause-lost

@@ -1,6 +1,6 @@
 use Rattle.std.proofs.Common.{ap, subst}
 use Rattle.thp_history.specs.declared.shape.Shape.{Shape}
-use Rattle.thp_history.specs.Prelude.{History, IsLegal, IsShape}
+use Rattle.thp_history.specs.Prelude.{History, IsLegal, IsNodeShape}
 use Rattle.thp_node.specs.Prelude.{NodeState}
 use Rattle.thp_node.proofs.JournalFacts.{stands_once, all_stand_whole, takes_oldest, leaves_freed_alone, allocates_once, nothing_enters, has_frames_once, keeps_frames, holds_while_live, lives_apart, others_free, flights_go_on, queue_goes_on, none_is_underused}
 use Rattle.thp_node.proofs.node.Node.laws.Given.{Over}
@@ -12,8 +12,8 @@ legal g c =
     let Q : History → Type 0 = λ h. IsLegal c.self.inside.journal.shape h in
     subst P (ap (λ (n : NodeState). n.shape) c.self.view_is) (subst Q (ap (λ (n : NodeState). n.journal) c.self.view_is) c.self.invariant.legal)
 
-shape : (g : Over) (c : goal.After-shape-shape g) → IsShape c.args.self.now.shape
-shape g c = let P : Shape → Type 0 = λ s. IsShape s in subst P (ap (λ (n : NodeState). n.shape) c.self.view_is) c.shape-shape.ensures.valid
+shape : (g : Over) (c : goal.After-shape-shape g) → IsNodeShape c.args.self.now.shape
+shape g c = let P : Shape → Type 0 = λ s. IsNodeShape s in subst P (ap (λ (n : NodeState). n.shape) c.self.view_is) c.shape-shape.ensures.valid
 
 pub returns-clause-once : goal.returns-clause-once
 returns-clause-once g c = stands_once c.args.self.now.shape c.args.self.now.journal (legal g c)

@@ -8,7 +8,7 @@ use Rattle.thp_node.proofs.node.Node.with_recorder.Goals as goal
 pub invariant_of-result : goal.invariant_of-result
 invariant_of-result g c =
     let b = c.in-Ok.blocks in
-    let P : History → Type 0 = λ h. IsNode c.new-2.result.shape h b.table b.queue in
+    let P : History → Type 0 = λ h. IsNode c.in-Ok-new.journal.shape h b.table b.queue in
     let Q : Shape → Type 0 = λ s. IsNode s [] b.table b.queue in
-    subst P (sym c.new-2.ensures.events)
-    (subst Q (sym c.new-2.ensures.shape) (node_none c.args.shape b.table b.queue c.in-Ok.ensures.size c.in-Ok.ensures.order c.in-Ok.ensures.empty c.in-Ok.ensures.queue))
+    subst P (sym c.in-Ok-new.ensures.events)
+    (subst Q (sym c.in-Ok-new.ensures.shape) (node_none c.args.shape b.table b.queue c.in-Ok.ensures.size c.in-Ok.ensures.order c.in-Ok.ensures.empty c.in-Ok.ensures.queue))
