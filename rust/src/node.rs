@@ -207,8 +207,8 @@ impl Node {
         Ok(Node { handle })
     }
 
-    /// Creates a node as [`Node::new`] does, which only counts its events: its memory doesn't grow. It has no journal, from which
-    /// the order of the queue is read too, so [`Node::journal`] and [`Node::queue`] fail with [`Fault::NoJournal`].
+    /// Creates a node as [`Node::new`] does, which only counts its events: its memory doesn't grow. It has no journal, so
+    /// [`Node::journal`] fails with [`Fault::NoJournal`].
     ///
     /// ```
     /// use leversorrel::{Fault, Node};
@@ -367,9 +367,7 @@ impl Node {
         pages
     }
 
-    /// Returns the queued pages, oldest first. Reads the journal back to the event that queued the oldest page. Fails with
-    /// [`Fault::NoJournal`] if the node only counts its events, with [`Fault::BadSize`] if it has more than 4,096 blocks, and with
-    /// [`Fault::OutOfMemory`].
+    /// Returns the queued pages, oldest first. Fails with [`Fault::OutOfMemory`].
     pub fn queue(&self) -> Result<Vec<u64>, Fault> {
         let length = self.queue_length() as usize;
         let mut pages = Vec::new();

@@ -3,9 +3,6 @@ mod Handles
 mod Exchanges
 mod TextSoFar
 mod Masks
-mod QueueOrder
-mod QueueBuffer
-mod QueueSteps
 mod Reading
 mod Crossings
 mod PassCrossings
