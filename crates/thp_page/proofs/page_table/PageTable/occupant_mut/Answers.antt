@@ -20,8 +20,8 @@ returns c =
       (
         refl,
         λ w.
-        written_stored order blocks ns c.self.inside.descriptors.items n c.args.block (with_page d w) stored ∙ descriptor_written order ns ds n c.args.block d (with_page d w) _ c.self.view_is is refl
-        ∙ ap (λ s. with_slot c.args.self.now c.args.block s) (slot_of-page o d w ∙ ap (λ s. paged s w) (sym read)),
+            written_stored order blocks ns c.self.inside.descriptors.items n c.args.block (with_page d w) stored ∙ descriptor_written order ns ds n c.args.block d (with_page d w) _ c.self.view_is is refl
+            ∙ ap (λ s. with_slot c.args.self.now c.args.block s) (slot_of-page o d w ∙ ap (λ s. paged s w) (sym read)),
       ),
       record {
         writes_back = tt;
