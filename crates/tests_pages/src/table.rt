@@ -207,26 +207,46 @@ fn change(table: &mut PageTable, block: u32, id: PageId) -> bool
     }
 }
 
+// The number of the page of a block, if it has one.
+fn number_at(table: &PageTable, block: u32) -> Option<PageId>
+    requires { block < length table.now.links }
+{
+    match table.page(block) {
+        Some((id, _)) => Some(id),
+        None => None,
+    }
+}
+
+// The first block that holds this number.
+fn holder(held: &[Option<PageId>; 64], id: PageId) -> Option<u32> {
+    for block in 0..64u32 {
+        if held[block as usize] == Some(id) {
+            return Some(block);
+        }
+    }
+    None
+}
+
 // The pages of 64 blocks come and go, with numbers that share many of their bits. Each time the table finds what it holds.
 fn change_often(rt: &impl Abort, table: &mut PageTable)
     requires { length table.old.links ≡ 64 }
 {
     let mut held = [None; 64];
     let mut random = 1u64;
-    for _step in 0..30_000 {
+    for _step in 0..30_000u32 {
         random = random
             .wrapping_mul(6_364_136_223_846_793_005)
             .wrapping_add(1);
         let block = (random >> 33) as u32 % 64;
         let id = PageId((random >> 40) % 3 * 8192 + (random >> 45) % 64 * 65_536);
-        held[block as usize] = change(table, block, id).then_some(id);
+        let there = change(table, block, id);
+        held[block as usize] = if there { Some(id) } else { None };
         if let Some(id) = held[(random >> 50) as usize % 64] {
-            let place = held.iter().position(|it| *it == Some(id));
-            expect_equal(rt, table.block_of(id).map(|it| it as usize), place);
+            expect_equal(rt, table.block_of(id), holder(&held, id));
         }
     }
-    for block in 0..64 {
-        expect_equal(rt, table.page(block).map(|it| it.0), held[block as usize]);
+    for block in 0..64u32 {
+        expect_equal(rt, number_at(table, block), held[block as usize]);
     }
 }
 
