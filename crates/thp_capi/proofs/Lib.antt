@@ -4,6 +4,7 @@ mod Exchanges
 mod TextSoFar
 mod Masks
 mod Reading
+mod QueueReading
 mod Crossings
 mod PassCrossings
 mod CheckCrossings

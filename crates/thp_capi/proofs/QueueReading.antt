@@ -1,5 +1,6 @@
 -- The queue read by its links: the page of each of its blocks, and the buffer that receives them.
-use Rattle.std.proofs.Common.{◌≡◌, ◌∙◌, ℕ, zero, suc, ◌+◌, ◌<◌, ◌≤◌, true, List, [], ◌∷◌, ◌++◌, Option, Some, None, length, map, take, drop, set, get_or, ap, ap₂, sym, subst, refl, arith}
+use Rattle.std.proofs.Common.{◌≡◌, ◌∙◌, ℕ, zero, suc, ◌+◌, ◌<◌, ◌≤◌, true, List, [], ◌∷◌, ◌++◌, Option, Some, None, length, map, take, drop, set, get_or, ap, ap₂, sym, subst, refl, arith, add-one, slice_get, inl, inr}
+use Rattle.std.proofs.lemmas.Bool.{cases_lt}
 use Rattle.std.proofs.lemmas.List.{take_all, drop_all}
 use Rattle.thp_history.specs.Prelude.{is_live, queue}
 use Rattle.thp_links.specs.declared.link.TheConstants.{NIL}
@@ -50,13 +51,23 @@ queued_at n t same fills lies has pages k b below is =
 
 -- one more page is stored
 pub stored_more : (ps buffer now : List ℕ) (k x : ℕ) → now ≡ take k ps ++ drop k buffer → k < length ps → k < length buffer → x ≡ get_or ps k 0 → set now k x ≡ take (k + 1) ps ++ drop (k + 1) buffer
-stored_more ps buffer now k x before a b is = ap (λ xs. set xs k x) before ∙ go ps buffer k a b is where
-  go : (ps buffer : List ℕ) (k : ℕ) → k < length ps → k < length buffer → x ≡ get_or ps k 0 → set (take k ps ++ drop k buffer) k x ≡ take (k + 1) ps ++ drop (k + 1) buffer
+stored_more ps buffer now k x before a b is = ap (λ xs. set xs k x) before ∙ go ps buffer k a b is ∙ ap (λ m. take m ps ++ drop m buffer) (sym (add-one k)) where
+  go : (ps buffer : List ℕ) (k : ℕ) → k < length ps → k < length buffer → x ≡ get_or ps k 0 → set (take k ps ++ drop k buffer) k x ≡ take (suc k) ps ++ drop (suc k) buffer
   go [] buffer k a b is = absurd (omega arith)
   go (p ∷ ps) [] k a b is = absurd (omega arith)
   go (p ∷ ps) (c ∷ cs) zero a b is = ap (λ y. y ∷ cs) is
   go (p ∷ ps) (c ∷ cs) (suc k) a b is = ap (λ ys. p ∷ ys) (go ps cs k (omega arith) (omega arith) is)
 
 -- all are that there is room for
-pub stored_all : (ps buffer now : List ℕ) (k : ℕ) → now ≡ take k ps ++ drop k buffer → (k ≤ length ps) × (k ≤ length buffer) → (length ps ≤ k → k ≡ length ps) → (k < length ps → k ≡ length buffer) → now ≡ filled_with ps buffer
-stored_all ps buffer now k is within a b = grind (arith)
+pub stored_all : (ps buffer now : List ℕ) (k : ℕ) → now ≡ take k ps ++ drop k buffer → k ≤ length ps → k ≤ length buffer → (k < length ps → k ≡ length buffer) → now ≡ filled_with ps buffer
+stored_all ps buffer now k is a b ends = elim (cases_lt k (length ps)) [
+  | inl below ↦ is ∙ ap₂ (λ (xs ys : List ℕ). xs ++ ys) (ap (λ n. take n ps) (ends below)) (drop_all k buffer (omega (arith, ends below)) ∙ sym (drop_all (length ps) buffer (omega (arith, ends below))))
+  | inr past ↦
+      let all : k ≡ length ps = omega (arith, a, past) in
+      is ∙ ap₂ (λ (xs ys : List ℕ). xs ++ ys) (take_all k ps (omega (arith, all)) ∙ sym (take_all (length buffer) ps (omega (arith, all, b)))) (ap (λ n. drop n buffer) all)
+]
+
+-- the oldest block
+pub first_at : (q : List ℕ) (b : ℕ) → slice_get q 0 ≡ Some b → b ≡ get_or q 0 NIL
+first_at [] b e = absurd (cc e)
+first_at (c ∷ q) b e = cc e
