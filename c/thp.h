@@ -329,7 +329,8 @@ thp_code thp_node_destroy(thp_node *node);
  * @{
  */
 /**
- * @brief Allocates a page, mapped whole once; its number is the number of allocations before it.
+ * @brief Allocates a page, mapped whole once; its number is the number of allocations before it. The page keeps its block until it is
+ * freed, also after a split.
  * @return also THP_CLOSED, THP_NO_BLOCK
  */
 thp_code thp_node_alloc(thp_node *node, uint32_t caller, uint64_t *page);
@@ -355,7 +356,8 @@ thp_code thp_node_pin(thp_node *node, uint32_t caller, uint64_t page);
 /** @brief Removes a pin, which can free the page. @return also THP_NO_PAGE, THP_IS_SPLIT, THP_NOT_PINNED */
 thp_code thp_node_unpin(thp_node *node, uint32_t caller, uint64_t page, thp_done *done);
 /**
- * @brief Records that data is written to each subpage of a range, which is not zero-filled afterwards.
+ * @brief Records that data is written to each subpage of a range, which is not zero-filled afterwards. Of a split page nothing more is
+ * recorded: where another thread's scan may have split the page, THP_IS_SPLIT can be ignored.
  * @return also THP_NO_PAGE, THP_BAD_RANGE, THP_IS_SPLIT, THP_NOT_MAPPED
  */
 thp_code thp_node_write(thp_node *node, uint32_t caller, uint64_t page, uint32_t first, uint32_t count);

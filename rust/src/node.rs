@@ -227,7 +227,8 @@ impl Node {
         Ok(Node { handle })
     }
 
-    /// Allocates a page, mapped whole once; its number is the number of allocations before it. Fails with `Closed` or `NoBlock`.
+    /// Allocates a page, mapped whole once; its number is the number of allocations before it. The page keeps its block until it is
+    /// freed, also after a split. Fails with `Closed` or `NoBlock`.
     pub fn alloc(&mut self, caller: u32) -> Result<u64, Fault> {
         let mut page = 0;
         // SAFETY: the handle is this node's own, and the page is a local.
@@ -286,7 +287,8 @@ impl Node {
     }
 
     /// Records that data is written to each of the `count` subpages from `first` on, which are not zero-filled afterwards. Fails
-    /// with `NoPage`, `BadRange`, `IsSplit` or `NotMapped`.
+    /// with `NoPage`, `BadRange`, `IsSplit` or `NotMapped`. Of a split page nothing more is recorded: where another thread's scan may
+    /// have split the page, `IsSplit` can be ignored.
     pub fn write(&mut self, caller: u32, page: u64, first: u32, count: u32) -> Result<(), Fault> {
         // SAFETY: the handle is this node's own.
         done(unsafe { sys::thp_node_write(&mut self.handle, caller, page, first, count) })
