@@ -7,9 +7,9 @@ use thp_journal_writer::{put, put_number};
 use thp_script::{ReadFault, TextKind};
 
 /// The first fault of a text that is an input, by line and kind; `None` where it has none.
-fn fault_of_input(alloc: Global, text: &[u8]) -> Option<(u32, TextKind)> {
+fn fault_of_input(alloc: Global, text: &[u8]) -> Option<(u64, TextKind)> {
     match check_text(alloc, text) {
-        Err(ReadFault::Text { line, kind }) => Some((line, kind)),
+        Err(ReadFault::Text { line, kind }) => Some((u64::from(line), kind)),
         _ => None,
     }
 }
@@ -65,10 +65,6 @@ fn expect_fault(rt: &impl Abort, alloc: Global, row: Row, fault: Option<u64>) {
         "{version} {nodes} {blocks} {caller}"
     );
     if version < 4 {
-        let wanted = match fault {
-            Some(line) => Some((line as u32, TextKind::BadNumber)),
-            None => None,
-        };
         expect_equal(rt, fault_of_input(alloc, &text), wanted);
     } else {
         expect_equal(
