@@ -124,8 +124,8 @@ cells_foot top count = plus top (times cell_height (plus count 3 / cells_across)
 -- which nodes are drawn, of all
 abbrev pub chosen_words : ℕ → List ℕ
 chosen_words count =
-    (codes "The first " ++ grouped (min most_cells count) ++ codes " of " ++ grouped count)
-    ++ codes " nodes, all on the same scales; thpdraw --node draws any of them alone, with all its panels."
+    (codes "Nodes 0 to " ++ grouped (min most_cells count - 1) ++ codes " of " ++ grouped count)
+    ++ codes ", all on the same scales; thpdraw --node draws any of them alone, with all its panels."
 
 -- the quantities, with the numbers that have full height and width
 unfoldable pub extent_items : Extents → List ℕ

@@ -1,7 +1,7 @@
 //! Many nodes, each drawn small, on the same scales.
-ghost use Rattle.std.specs.Prelude.{◌≡◌, ◌<◌, ◌^◌, ◌++◌, length, OnOk, codes, decimal};
+ghost use Rattle.std.specs.Prelude.{◌≡◌, ◌<◌, ◌-◌, ◌^◌, ◌++◌, length, min, OnOk, codes, decimal};
 ghost use Rattle.thp_drawing.specs.Elements.{text_at};
-ghost use Rattle.thp_drawing.specs.Grids.{cell_areas, cell_at, cell_mark, cell_title, cell_wide, cells_drawn, cells_foot, cells_of, cells_top, chosen_words, ends_step, extent_items, extents_of, greatest_left, grid_heads, most_among, most_room, step_if, step_width, stepped_area};
+ghost use Rattle.thp_drawing.specs.Grids.{cell_areas, cell_at, cell_mark, cell_title, cell_wide, cells_drawn, cells_foot, cells_of, cells_top, chosen_words, ends_step, extent_items, extents_of, greatest_left, grid_heads, most_among, most_cells, most_room, step_if, step_width, stepped_area};
 
 use crate::axis::room_of;
 use crate::element::{
@@ -94,14 +94,21 @@ pub(crate) fn put_grid_heads(text: &mut Vec<u8>, count: u128, extents: Extents) 
     put(text, GROUP_END)
 }
 
+// The last of so many nodes that is drawn.
+fn last_drawn(count: u128) -> u128
+    ensures { result ≡ min most_cells count - 1 }
+{
+    count.min(MAX_CELLS as u128).saturating_sub(1)
+}
+
 // The words about which nodes are drawn.
 fn put_chosen_words(text: &mut Vec<u8>, count: u128) -> PutResult
     ensures { OnOk result (text.new.items ≡ text.old.items ++ text_at (codes "soft") 150 640 (chosen_words count)) }
 {
-    let drawn = count.min(MAX_CELLS as u128);
+    let last = last_drawn(count);
     let words = pieces!(
-        Bytes(b"The first ") Grouped(drawn) Bytes(b" of ") Grouped(count)
-        Bytes(b" nodes, all on the same scales; thpdraw --node draws any of them alone, with all its panels.")
+        Bytes(b"Nodes 0 to ") Grouped(last) Bytes(b" of ") Grouped(count)
+        Bytes(b", all on the same scales; thpdraw --node draws any of them alone, with all its panels.")
     );
     put_words(text, b"soft", 150, 640, &words)
 }
