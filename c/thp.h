@@ -316,8 +316,7 @@ thp_code thp_node_create(thp_node *node, uint32_t blocks, uint32_t order, uint32
 
 /**
  * @brief Creates a node that only counts its events, as thp_node_create creates one that stores them. Its memory does not grow.
- * It has no journal, from which the order of the queue is read too: thp_node_journal and thp_node_queue return THP_NO_JOURNAL. All
- * other calls are the same.
+ * It has no journal: thp_node_journal returns THP_NO_JOURNAL. All other calls are the same.
  */
 thp_code thp_node_create_counting(thp_node *node, uint32_t blocks, uint32_t order, uint32_t underused);
 
@@ -330,7 +329,8 @@ thp_code thp_node_destroy(thp_node *node);
  * @{
  */
 /**
- * @brief Allocates a page, mapped whole once; its number is the number of allocations before it.
+ * @brief Allocates a page, mapped whole once; its number is the number of allocations before it. The page keeps its block until it is
+ * freed, also after a split.
  * @return also THP_CLOSED, THP_NO_BLOCK
  */
 thp_code thp_node_alloc(thp_node *node, uint32_t caller, uint64_t *page);
@@ -356,7 +356,8 @@ thp_code thp_node_pin(thp_node *node, uint32_t caller, uint64_t page);
 /** @brief Removes a pin, which can free the page. @return also THP_NO_PAGE, THP_IS_SPLIT, THP_NOT_PINNED */
 thp_code thp_node_unpin(thp_node *node, uint32_t caller, uint64_t page, thp_done *done);
 /**
- * @brief Records that data is written to each subpage of a range, which is not zero-filled afterwards.
+ * @brief Records that data is written to each subpage of a range, which is not zero-filled afterwards. Of a split page nothing more is
+ * recorded: where another thread's scan may have split the page, THP_IS_SPLIT can be ignored.
  * @return also THP_NO_PAGE, THP_BAD_RANGE, THP_IS_SPLIT, THP_NOT_MAPPED
  */
 thp_code thp_node_write(thp_node *node, uint32_t caller, uint64_t page, uint32_t first, uint32_t count);
@@ -421,13 +422,12 @@ thp_code thp_node_reserve(thp_node *node, uint32_t events);
 /** @brief Stores the number of queued pages, which is the shrinker's count. @return THP_OK, THP_EMPTY, THP_NULL */
 thp_code thp_node_queue_length(const thp_node *node, uint32_t *pages);
 /**
- * @brief Stores the queued pages, oldest first, as many as there is room for. Allocates no memory. Reads the journal back to the event
- * that queued the oldest page. A node of more than 4,096 blocks is refused with THP_BAD_SIZE.
+ * @brief Stores the queued pages, oldest first, as many as there is room for. Allocates no memory, and takes constant time for each.
  * @param node the node
  * @param[out] pages receives the pages; may be null if room is 0
  * @param room the number of pages that the array holds
  * @param[out] count the number of queued pages, which can be greater than room
- * @return THP_OK, THP_EMPTY, THP_BAD_SIZE, THP_NO_JOURNAL, THP_NULL
+ * @return THP_OK, THP_EMPTY, THP_NULL
  */
 thp_code thp_node_queue(const thp_node *node, uint64_t *pages, size_t room, uint32_t *count);
 /**

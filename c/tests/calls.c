@@ -382,14 +382,14 @@ static void readers(void) {
     ANSWERS(thp_node_destroy(&node), THP_OK);
 }
 
-/* the whole queue of a full node, with more room than it needs, and with room whose low bits are zero */
-static void longest_queue(void) {
-    enum { PAGES = 4096, ROOM = 65536 };
+/* the whole queue of a large node, with more room than it needs, and with room whose low bits are zero */
+static void long_queue(void) {
+    enum { PAGES = 5000, ROOM = 131072 };
     static uint64_t pages[ROOM];
     thp_node node = small_node(PAGES);
     uint32_t count = 9;
     for (uint64_t k = 0; k < PAGES; k++) WANT(queued_page(&node, 0) == k);
-    for (size_t room = PAGES; room <= ROOM; room *= 16) {
+    for (size_t room = 8192; room <= ROOM; room *= 16) {
         memset(pages, 9, sizeof pages);
         ANSWERS(thp_node_queue(&node, pages, room, &count), THP_OK);
         WANT(count == PAGES && pages[PAGES] == UINT64_C(0x0909090909090909));
@@ -516,8 +516,10 @@ static void counting(void) {
     WANT(stats.events > 4000 && stats.split_page > 100);
     ANSWERS(thp_node_journal(&counted, &byte, 1, &size), THP_NO_JOURNAL);
     WANT(size == 7 && byte == '#');
-    ANSWERS(thp_node_queue(&counted, reported, 16, &random), THP_NO_JOURNAL);
-    ANSWERS(thp_node_queue(&kept, reported, 16, &random), THP_OK);
+    uint32_t length, other_length;
+    ANSWERS(thp_node_queue(&counted, reported, 16, &length), THP_OK);
+    ANSWERS(thp_node_queue(&kept, other, 16, &other_length), THP_OK);
+    WANT(length == other_length && memcmp(reported, other, 8 * (size_t)length) == 0);
     ANSWERS(thp_node_journal(&kept, &byte, 1, &size), THP_TOO_SMALL);
     ANSWERS(thp_node_destroy(&counted), THP_OK);
     ANSWERS(thp_node_destroy(&kept), THP_OK);
@@ -601,7 +603,7 @@ int main(void) {
     batches();
     batches_of_callers();
     readers();
-    longest_queue();
+    long_queue();
     read_only();
     underused();
     journals();

@@ -207,8 +207,8 @@ impl Node {
         Ok(Node { handle })
     }
 
-    /// Creates a node as [`Node::new`] does, which only counts its events: its memory doesn't grow. It has no journal, from which
-    /// the order of the queue is read too, so [`Node::journal`] and [`Node::queue`] fail with [`Fault::NoJournal`].
+    /// Creates a node as [`Node::new`] does, which only counts its events: its memory doesn't grow. It has no journal, so
+    /// [`Node::journal`] fails with [`Fault::NoJournal`].
     ///
     /// ```
     /// use leversorrel::{Fault, Node};
@@ -227,7 +227,8 @@ impl Node {
         Ok(Node { handle })
     }
 
-    /// Allocates a page, mapped whole once; its number is the number of allocations before it. Fails with `Closed` or `NoBlock`.
+    /// Allocates a page, mapped whole once; its number is the number of allocations before it. The page keeps its block until it is
+    /// freed, also after a split. Fails with `Closed` or `NoBlock`.
     pub fn alloc(&mut self, caller: u32) -> Result<u64, Fault> {
         let mut page = 0;
         // SAFETY: the handle is this node's own, and the page is a local.
@@ -286,7 +287,8 @@ impl Node {
     }
 
     /// Records that data is written to each of the `count` subpages from `first` on, which are not zero-filled afterwards. Fails
-    /// with `NoPage`, `BadRange`, `IsSplit` or `NotMapped`.
+    /// with `NoPage`, `BadRange`, `IsSplit` or `NotMapped`. Of a split page nothing more is recorded: where another thread's scan may
+    /// have split the page, `IsSplit` can be ignored.
     pub fn write(&mut self, caller: u32, page: u64, first: u32, count: u32) -> Result<(), Fault> {
         // SAFETY: the handle is this node's own.
         done(unsafe { sys::thp_node_write(&mut self.handle, caller, page, first, count) })
@@ -367,9 +369,7 @@ impl Node {
         pages
     }
 
-    /// Returns the queued pages, oldest first. Reads the journal back to the event that queued the oldest page. Fails with
-    /// [`Fault::NoJournal`] if the node only counts its events, with [`Fault::BadSize`] if it has more than 4,096 blocks, and with
-    /// [`Fault::OutOfMemory`].
+    /// Returns the queued pages, oldest first. Fails with [`Fault::OutOfMemory`].
     pub fn queue(&self) -> Result<Vec<u64>, Fault> {
         let length = self.queue_length() as usize;
         let mut pages = Vec::new();

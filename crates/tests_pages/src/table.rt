@@ -37,6 +37,16 @@ fn pin_at(table: &mut PageTable, block: u32) -> Result<(), Refusal>
     }
 }
 
+// Pins the page of a block in use.
+fn pin_occupant(table: &mut PageTable, block: u32) -> Result<(), Refusal>
+    requires inside { block < length table.old.links }
+    requires occupied { IsSome (slot_at table.old block) }
+    ensures pinned { OnOk result ((s : Slot) → slot_at table.old block ≡ Some s → (p : PageState) × Pinned s.page p × (table.new ≡ with_slot table.old block (Some (record s { page = p })))) }
+    ensures kept { OnErr result (table.new ≡ table.old) }
+{
+    table.occupant_mut(block).pin()
+}
+
 // Puts a page of this number into a block, if the block is empty and the number new.
 fn put(rt: &impl Abort, table: &mut PageTable, block: u32, id: PageId)
     requires { block < length table.old.links }
@@ -99,8 +109,9 @@ fn page_moves(rt: &impl Abort, table: &mut PageTable)
     ensures occupied { IsSome (slot_at table.new 2) }
 {
     expect_equal(rt, pin_at(table, 2), Ok(()));
+    expect_equal(rt, pin_occupant(table, 2), Ok(()));
     table.set_standing(2, Standing::Batch(5));
-    expect_equal(rt, pins_at(table, 2), 1);
+    expect_equal(rt, (pins_at(table, 2), table.occupant(2).pins()), (2, 2));
     expect_equal(rt, table.standing(2), Standing::Batch(5));
 }
 
@@ -112,6 +123,7 @@ fn page_goes(rt: &impl Abort, table: &mut PageTable, id: PageId)
     ensures size { length table.new.links ≡ 4 }
     ensures slots { length table.new.slots ≡ 4 }
 {
+    expect_equal(rt, table.number(2), id);
     table.clear(2);
     let is_empty = table.page(2).is_none();
     expect_equal(rt, (table.block_of(id), is_empty), (None, true));
@@ -129,6 +141,7 @@ fn come_and_go(rt: &impl Abort, table: &mut PageTable)
         next: NIL,
     };
     expect_equal(rt, table.link(1), alone);
+    expect_equal(rt, (table.peek_next(2), table.peek_next(1)), (0, NIL));
     page_comes(rt, table, PageId(7));
     page_moves(rt, table);
     expect_equal(rt, table.link(2), link);
@@ -172,6 +185,74 @@ fn find_alike(rt: &impl Abort, table: &mut PageTable)
 #[test]
 fn numbers_alike_are_found(rt: HostRuntime) -> Result<(), Fail> {
     find_alike(&rt, &mut PageTable::new(rt.alloc(), 20_000, 2)?);
+    Ok(())
+}
+
+// Empties a block in use, or puts a page of this number into it unless another block has one. Returns whether that block has the
+// page now.
+fn change(table: &mut PageTable, block: u32, id: PageId) -> bool
+    requires { block < length table.old.links }
+    ensures { length table.new.links ≡ length table.old.links }
+{
+    if table.page(block).is_some() {
+        table.clear(block);
+        return false;
+    }
+    match table.block_of(id) {
+        None => {
+            table.place(block, id);
+            true
+        }
+        Some(_) => false,
+    }
+}
+
+// The number of the page of a block, if it has one.
+fn number_at(table: &PageTable, block: u32) -> Option<PageId>
+    requires { block < length table.now.links }
+{
+    match table.page(block) {
+        Some((id, _)) => Some(id),
+        None => None,
+    }
+}
+
+// The first block that holds this number.
+fn holder(held: &[Option<PageId>; 64], id: PageId) -> Option<u32> {
+    for block in 0..64u32 {
+        if held[block as usize] == Some(id) {
+            return Some(block);
+        }
+    }
+    None
+}
+
+// The pages of 64 blocks come and go, with numbers that share many of their bits. Each time the table finds what it holds.
+fn change_often(rt: &impl Abort, table: &mut PageTable)
+    requires { length table.old.links ≡ 64 }
+{
+    let mut held = [None; 64];
+    let mut random = 1u64;
+    for _step in 0..30_000u32 {
+        random = random
+            .wrapping_mul(6_364_136_223_846_793_005)
+            .wrapping_add(1);
+        let block = (random >> 33) as u32 % 64;
+        let id = PageId((random >> 40) % 3 * 8192 + (random >> 45) % 64 * 65_536);
+        let there = change(table, block, id);
+        held[block as usize] = if there { Some(id) } else { None };
+        if let Some(id) = held[(random >> 50) as usize % 64] {
+            expect_equal(rt, table.block_of(id), holder(&held, id));
+        }
+    }
+    for block in 0..64u32 {
+        expect_equal(rt, number_at(table, block), held[block as usize]);
+    }
+}
+
+#[test]
+fn pages_come_and_go_often(rt: HostRuntime) -> Result<(), Fail> {
+    change_often(&rt, &mut PageTable::new(rt.alloc(), 64, 2)?);
     Ok(())
 }
 

@@ -210,15 +210,8 @@ pub extern "C" fn thp_c_node_queue(
     pages: &mut [u64],
     count: &mut u32,
 ) -> u32
-    ensures does { Reports result (DoesIfKept handle.old.held handle.new.held (QueueCall pages.old pages.new count.new) (λ old new answer. (new ≡ old) × (answer ≡ Err Fault.NoJournal))) }
-    ensures kept_pages { OnErr (answer_of_code result) (pages.new ≡ pages.old) }
-    ensures kept_count { OnErr (answer_of_code result) (count.new ≡ count.old) }
+    ensures does { Reports result (Returns handle.old.held handle.new.held count.old count.new (QueueCall pages.old pages.new)) }
+    ensures kept { OnErr (answer_of_code result) (pages.new ≡ pages.old) }
 {
-    let engine = attempt!(handle.take(alloc));
-    let length = match &*engine {
-        Held::Kept(engine) => engine.queue(pages),
-        Held::Counted(_) => Err(Fault::NoJournal),
-    };
-    handle.store(engine);
-    report(length, count)
+    on_node!(handle, alloc, engine => Ok(engine.queue(pages)), count)
 }

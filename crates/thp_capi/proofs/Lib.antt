@@ -3,10 +3,8 @@ mod Handles
 mod Exchanges
 mod TextSoFar
 mod Masks
-mod QueueOrder
-mod QueueBuffer
-mod QueueSteps
 mod Reading
+mod QueueReading
 mod Crossings
 mod PassCrossings
 mod CheckCrossings

@@ -1,18 +1,15 @@
 -- What a node's table reports of a page is what the journal determines.
 use Rattle.std.proofs.Common.{◌≡◌, ◌∙◌, ℕ, true, false, Option, Some, None, ap, sym, subst, refl, IfSome}
 use Rattle.std.specs.Int.{from_bool}
-use Rattle.thp_history.specs.Prelude.{is_live, is_split, pins, whole, PageState, Tallies, has_page, queue, stands, is_partly_mapped}
-use Rattle.thp_history.proofs.Bools.{by_bool, or_first}
+use Rattle.thp_history.specs.Prelude.{is_live, is_split, pins, whole, PageState, Tallies, is_partly_mapped}
+use Rattle.thp_history.proofs.Bools.{by_bool}
 use Rattle.thp_history.proofs.Tallying.{pins_is, whole_is}
 use Rattle.thp_page.specs.declared.standing.Standing.{Standing}
-use Rattle.thp_page.specs.declared.standing.Standing.TheVariants.{Queued}
 use Rattle.thp_page.specs.Prelude.{slot_at, page_in, HoldsPage, Slot, Table}
 use Rattle.thp_live_pages.specs.Prelude.{Fills, HasBlock, block_of, standing_of, LiesWherePlaced}
-use Rattle.thp_live_pages.proofs.Standings.{standing_queued}
-use Rattle.thp_node.specs.Prelude.{StandsWhole, NodeState}
+use Rattle.thp_node.specs.Prelude.{NodeState}
 use Rattle.thp_capi.specs.Reading.{flight_caller, list_number, page_state_of}
 use Rattle.thp_capi.specs.declared.replies.ThpPageState.{ThpPageState}
-use Rattle.thp_capi.proofs.QueueOrder.{has-append}
 
 -- page p is live, and what the table has of it in block b is what the journal determines
 pub record AtBlock (n : NodeState) (t : Table) (p b : ℕ) : Type 0 where
@@ -65,17 +62,6 @@ unseen n t same has p none = by_bool (is_live n.journal p) _ (λ y. absurd (go (
 
   go : HasBlock t p → ⊥
   go w = none w.0 w.1
-
--- one that is not live is not queued
-pub unqueued : (n : NodeState) → StandsWhole n.shape n.journal → (p : ℕ) → is_live n.journal p ≡ false → has_page p (queue n.shape n.journal) ≡ false
-unfolding StandsWhole
-unqueued n whole_pages p gone = by_bool (has_page p (queue n.shape n.journal)) _ (λ y. absurd (let live = (whole_pages p (stood y)).0 in cc)) (λ y. y) where
-  stood : has_page p (queue n.shape n.journal) ≡ true → stands n.shape n.journal p ≡ true
-  stood y = has-append p (queue n.shape n.journal) _ ∙ or_first _ _ y
-
--- one that is on another list is not queued
-pub elsewhere : (n : NodeState) (p : ℕ) (d : Standing) → d ≡ standing_of n.shape n.journal p → (d ≡ Queued → ⊥) → has_page p (queue n.shape n.journal) ≡ false
-elsewhere n p d is other = by_bool (has_page p (queue n.shape n.journal)) _ (λ y. absurd (other (is ∙ standing_queued n.shape n.journal p y))) (λ y. y)
 
 -- the numbers of a page's state
 pub state_is : (n : NodeState) (p : ℕ) (x : PageState) (w : Standing) (t : ThpPageState) → Tallies n.shape n.journal p x → w ≡ standing_of n.shape n.journal p →

@@ -6,7 +6,6 @@ pub mod Held
 pub mod Replies
 pub mod Calls
 pub mod Reading
-pub mod Joining
 pub mod Handles
 pub mod Rooms
 pub mod Rows

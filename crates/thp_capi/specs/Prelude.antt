@@ -4,7 +4,6 @@ pub use Rattle.thp_capi.specs.Checks.{CheckAnswer, ReportsText, code_and_line}
 pub use Rattle.thp_capi.specs.Codes.{IsCode, Reports, answer_of_code, answer_with}
 pub use Rattle.thp_capi.specs.Engines.{EngineState, IsEngine, NoneOpen, OthersOpen, engine_open_of, shape_with}
 pub use Rattle.thp_capi.specs.Held.{DoesIfKept, DoesOnHandle, Emptied, MadeNode, Returns, held_value, is_counting}
-pub use Rattle.thp_capi.specs.Joining.{joins}
 pub use Rattle.thp_capi.specs.LongChecks.{CheckMade, CheckReads, CheckReports, LongCheckEnds}
 pub use Rattle.thp_capi.specs.PassBatches.{PassAbandon, PassBack, PassNext, PassTake}
 pub use Rattle.thp_capi.specs.Passes.{Adjoin, AdjoinHeld, CellMade, Dismantled, Divided, Divides, Finished, IsCellSize, IsNewPass, Joined, OneCell, OneCellHeld, PassAlloc, PassCount, PassLost, PassOne, PassScan, WhyApart, WhyUndivided, WhyUnfinished}

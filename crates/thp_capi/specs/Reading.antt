@@ -2,15 +2,14 @@
 use Rattle.std.specs.Prelude.{◌≡◌, ℕ, ◌≤◌, ◌<◌, ◌⊎◌, true, false, List, ◌++◌, drop, length, take, Result, Ok, Err, OnOk, IfOk, IfErr}
 use Rattle.std.specs.Int.{from_bool}
 use Rattle.thp_history.specs.declared.refusal.Refusal.TheVariants.{NoPage, BadRange}
-use Rattle.thp_history.specs.Prelude.{is_live, is_split, own, pins, max_blocks, whole, queue, subpages, is_partly_mapped}
+use Rattle.thp_history.specs.Prelude.{is_live, is_split, own, pins, whole, queue, subpages, is_partly_mapped}
 use Rattle.thp_page.specs.declared.standing.Standing.{Standing}
 use Rattle.thp_page.specs.declared.standing.Standing.TheVariants.{Nowhere, Queued, Batch}
 use Rattle.thp_live_pages.specs.Prelude.{standing_of}
 use Rattle.thp_node.specs.Prelude.{NodeState}
-use Rattle.thp_capi.specs.Codes.{Answer}
 use Rattle.thp_capi.specs.Engines.{EngineState}
 use Rattle.thp_capi.specs.declared.codes.Fault.{Fault}
-use Rattle.thp_capi.specs.declared.codes.Fault.TheVariants.{BadSize, Refused as RefusedWith}
+use Rattle.thp_capi.specs.declared.codes.Fault.TheVariants.{Refused as RefusedWith}
 use Rattle.thp_capi.specs.declared.replies.ThpPageState.{ThpPageState}
 
 -- the number of the list that a page is on
@@ -64,11 +63,8 @@ MapcountCall p i old new answer =
 abbrev pub filled_with : List ℕ → List ℕ → List ℕ
 filled_with ps buffer = take (length buffer) ps ++ drop (length ps) buffer
 
--- a query of the queued pages, oldest first, and of their number n; the buffer receives those that fit. It is refused for a node of
--- more than 4,096 blocks.
-abbrev pub QueueCall : List ℕ → List ℕ → ℕ → EngineState → EngineState → Answer → Type 0
-QueueCall before after n old new answer =
+-- a query of the queued pages, oldest first, and of their number n; the buffer receives those that fit
+abbrev pub QueueCall : List ℕ → List ℕ → EngineState → EngineState → Result ℕ Fault → Type 0
+QueueCall before after old new answer =
     let ps = queue old.node.shape old.node.journal in
-    (new ≡ old)
-    × (((old.node.shape.blocks ≤ max_blocks) × (answer ≡ Ok tt) × (n ≡ length ps) × (after ≡ filled_with ps before))
-    ⊎ ((max_blocks < old.node.shape.blocks) × (answer ≡ Err BadSize)))
+    (new ≡ old) × (answer ≡ Ok (length ps)) × (after ≡ filled_with ps before)

@@ -126,10 +126,7 @@ impl PageStore {
         ensures gained { OnOk result (AtSlot self.old.table block (λ x. (p : PageState) × Gains gain x.page p × Edits self.old self.new block (Some (record x { page = p })) self.old.queue 0)) }
         ensures kept { OnErr result (self.new ≡ self.old) }
     {
-        match self.table.page_mut(block) {
-            Some(page) => page.gain(gain),
-            None => unreachable!(),
-        }
+        self.table.occupant_mut(block).gain(gain)
     }
 
     /// Removes mappings or a pin of the page of a block, unless the page refuses that, and then queues the page, frees it, or
@@ -150,9 +147,7 @@ impl PageStore {
     {
         let standing = self.table.standing(block);
         let mut change = Change::none();
-        let Some(page) = self.table.page_mut(block) else {
-            unreachable!();
-        };
+        let page = self.table.occupant_mut(block);
         page.lose(loss, &mut change)?;
         done.outcome = outcome_of(page, &change, standing, closed);
         give_back(page, &change, done.outcome, &mut done.released);
@@ -207,10 +202,7 @@ impl PageStore {
         requires { IsSome (slot_at self.now.table block) }
         ensures { AtSlot self.now.table block (λ x. result ≡ x.id) }
     {
-        match self.table.page(block) {
-            Some((id, _)) => id,
-            None => unreachable!(),
-        }
+        self.table.number(block)
     }
 
     /// Returns the pins of the page of a block.
@@ -255,10 +247,7 @@ impl PageStore {
         ensures { AtSlot self.old.table block (λ x. (p : PageState) × PageSplit give_zero x.page p × (result ≡ gives_frames x.page p) × Edits self.old self.new block (Some (record x { page = p; standing = Standing.Nowhere })) self.old.queue 0) }
     {
         self.table.set_standing(block, Standing::Nowhere);
-        match self.table.page_mut(block) {
-            Some(page) => page.split(give_zero),
-            None => unreachable!(),
-        }
+        self.table.occupant_mut(block).split(give_zero)
     }
 
     /// Appends the page of a block, which is not in the queue, to the queue.
@@ -310,10 +299,7 @@ impl PageStore {
         requires { IsSome (slot_at self.now.table block) }
         ensures { AtSlot self.now.table block (λ x. result.now ≡ x.page) }
     {
-        match self.table.page(block) {
-            Some((_, page)) => page,
-            None => unreachable!(),
-        }
+        self.table.occupant(block)
     }
 
     // Removes the page of a block from the queue, if it is there.

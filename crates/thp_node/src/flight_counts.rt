@@ -6,12 +6,11 @@ ghost use Rattle.thp_node.specs.Journals.{FlightsMove};
 use std::alloc::{AllocError, Global};
 use std::marker::Model;
 use thp_history::MAX_NODE_CALLERS;
-use thp_links::ReservedVec;
 
-// The number of pages that each caller has in flight. It takes memory up to the greatest caller that ever took a page.
+// The number of pages that each caller has in flight.
 #[derive(Drop)]
 pub(crate) struct FlightCounts {
-    counts: ReservedVec<u8>,
+    counts: Vec<u8>,
 }
 
 impl Model for FlightCounts {
@@ -20,9 +19,9 @@ impl Model for FlightCounts {
 
     ghost Value = { List ℕ };
 
-    ghost view = { λ f. f.counts };
+    ghost view = { λ f. f.counts.items };
 
-    ghost invariant = { λ f. length f.counts ≡ max_node_callers };
+    ghost invariant = { λ f. length f.counts.items ≡ max_node_callers };
 }
 
 impl FlightCounts {
@@ -30,8 +29,9 @@ impl FlightCounts {
     pub(crate) fn new(alloc: Global) -> Result<FlightCounts, AllocError>
         ensures { IfOk result (λ f. (c : ℕ) → slice_index_or f c 0 ≡ 0) }
     {
-        let counts = ReservedVec::new(alloc, MAX_NODE_CALLERS, 0)?;
-        Ok(FlightCounts { counts })
+        Ok(FlightCounts {
+            counts: vec![in alloc; 0; MAX_NODE_CALLERS as usize]?,
+        })
     }
 
     // The number of pages that a caller has in flight.
@@ -39,7 +39,7 @@ impl FlightCounts {
         requires { caller < max_node_callers }
         ensures { result ≡ slice_index_or self.now caller 0 }
     {
-        u64::from(self.counts.at(caller))
+        u64::from(self.counts[caller as usize])
     }
 
     // One more page is in a caller's flight.
@@ -49,8 +49,7 @@ impl FlightCounts {
         requires room { slice_index_or self.old caller 0 + 1 < 2 ^ 8 }
         ensures { FlightsMove self.old self.new (Some caller) None }
     {
-        let count = self.counts.at(caller);
-        self.counts.set(caller, count + 1);
+        self.counts[caller as usize] += 1;
     }
 
     // One page less is in a caller's flight.
@@ -59,7 +58,6 @@ impl FlightCounts {
         requires { 0 < slice_index_or self.old caller 0 }
         ensures { FlightsMove self.old self.new None (Some caller) }
     {
-        let count = self.counts.at(caller);
-        self.counts.set(caller, count - 1);
+        self.counts[caller as usize] -= 1;
     }
 }

@@ -84,6 +84,14 @@ number_in-slot_of x d = grind arith
 pub standing_in-slot_of : (o : Option ℕ) (d : Descriptor) → IfSome (slot_of o d) (λ s. d.standing ≡ s.standing)
 standing_in-slot_of x d = grind arith
 
+pub occupant-slot_of : (o : Option ℕ) (d : Descriptor) → IfSome (slot_of o d) (λ s. d.page ≡ s.page)
+occupant-slot_of None d = tt
+occupant-slot_of (Some n) d = refl
+
+pub numbered_slot : (o : Option Slot) (id : ℕ) → number_in o ≡ Some id → IfSome o (λ s. id ≡ s.id)
+numbered_slot None id is = tt
+numbered_slot (Some s) id is = cc
+
 pub page_in-slot_of : (o : Option ℕ) (d : Descriptor) → page_in (slot_of o d) ≡ cond (is_some o) (Some d.page) None
 page_in-slot_of x d = grind arith
 

@@ -1,6 +1,6 @@
 -- How a borrowed page changes its table.
 use Rattle.std.specs.Prelude.{ℕ, Option}
-use Rattle.std.specs.Borrow.{LendsIf, MutBor, Fml}
+use Rattle.std.specs.Borrow.{Lends, LendsIf, MutBor, Fml}
 use Rattle.thp_history.specs.Prelude.{PageState}
 use Rattle.thp_page.specs.declared.page_table.Descriptor.{Descriptor}
 use Rattle.thp_page.specs.contracts.page_table.Descriptor as D
@@ -20,3 +20,7 @@ lends_own_page d r = LendsIf D.the_row P.the_row d r (with_page d.now) d.now
 -- the same for the slot of the block
 abbrev pub lends_page : MutBor Table → ℕ → Option (MutBor PageState) → Fml
 lends_page t b r = LendsIf T.the_row P.the_row t r (λ p. with_slot t.now b (paged (slot_at t.now b) p)) t.now
+
+-- the same for the page of a block in use
+abbrev pub lends_occupant : MutBor Table → ℕ → MutBor PageState → Fml
+lends_occupant t b r = Lends T.the_row P.the_row t r (λ p. with_slot t.now b (paged (slot_at t.now b) p))

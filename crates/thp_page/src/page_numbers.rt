@@ -50,6 +50,17 @@ impl PageNumbers {
         self.trees.numbers[block as usize]
     }
 
+    // The number in a block that has one.
+    pub(crate) fn number(&self, block: u32) -> PageId
+        requires { IsSome (slice_index_or self.now block None) }
+        ensures { slice_index_or self.now block None ≡ Some result }
+    {
+        match self.trees.numbers[block as usize] {
+            Some(id) => id,
+            None => unreachable!(),
+        }
+    }
+
     // Sets the number of a block that has none.
     pub(crate) fn place(&mut self, block: u32, id: PageId)
         requires inside { block < length self.old }

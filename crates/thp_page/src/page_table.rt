@@ -1,5 +1,5 @@
 //! The table of page descriptors: a link pair for each block of a node, and a page for each block in use.
-ghost use Rattle.std.specs.Prelude.{◌≡◌, ◌<◌, ◌≤◌, ℕ, ◌+◌, ◌-◌, ◌++◌, length, replicate, vec_capacity, IsSome, IfOk, IfSome, IfNone, Option, Some, None};
+ghost use Rattle.std.specs.Prelude.{◌≡◌, ◌<◌, ◌≤◌, ℕ, ◌+◌, ◌-◌, ◌++◌, length, replicate, slice_get, vec_capacity, IsSome, IfOk, IfSome, IfNone, Option, Some, None};
 ghost use Rattle.std.specs.Option.{option_map, option_copied_mut};
 ghost use Rattle.thp_history.specs.Prelude.{max_order, min_order, IsFresh};
 ghost use Rattle.thp_page.specs.Descriptors.{blank_descriptor};
@@ -117,7 +117,7 @@ fn extend(descriptors: &mut Vec<Descriptor>, order: u32, block: u32)
 
 impl PageTable {
     ghost use Rattle.std.specs.Borrow.{sem};
-    ghost use Rattle.thp_page.specs.Lending.{lends_page};
+    ghost use Rattle.thp_page.specs.Lending.{lends_occupant, lends_page};
 
     /// Creates a table of `blocks` empty blocks, for pages of `2 ^ order` subpages. Reserves all memory that the table will ever
     /// use, and fails if it can't be reserved. Touches none of a block's memory before the block is used.
@@ -170,6 +170,34 @@ impl PageTable {
         self.descriptors[block as usize].page_mut(taken)
     }
 
+    /// Returns the page of a block in use.
+    pub fn occupant(&self, block: u32) -> &Page
+        requires inside { block < length self.now.links }
+        requires occupied { IsSome (slot_at self.now block) }
+        ensures { IfSome (slot_at self.now block) (λ s. result.now ≡ s.page) }
+    {
+        &self.descriptors[block as usize].page
+    }
+
+    /// Returns the page of a block in use for changes.
+    pub fn occupant_mut(&mut self, block: u32) -> &mut Page
+        requires inside { block < length self.old.links }
+        requires occupied { IsSome (slot_at self.old block) }
+        ensures* writes_back { sem 𝓛 (lends_occupant self.entry block result) }
+        ensures value { Some result.now ≡ page_in (slot_at self.old block) }
+    {
+        &mut self.descriptors[block as usize].page
+    }
+
+    /// Returns the number of the page of a block in use.
+    pub fn number(&self, block: u32) -> PageId
+        requires inside { block < length self.now.links }
+        requires occupied { IsSome (slot_at self.now block) }
+        ensures { IfSome (slot_at self.now block) (λ s. result ≡ s.id) }
+    {
+        self.numbers.number(block)
+    }
+
     /// Places a new page with this number in an empty block. The page is on no list.
     pub fn place(&mut self, block: u32, id: PageId)
         requires inside { block < length self.old.links }
@@ -210,6 +238,17 @@ impl PageTable {
         ensures { self.new ≡ with_slot self.old block (stood (slot_at self.old block) standing) }
     {
         self.descriptors[block as usize].standing = standing;
+    }
+
+    /// Returns the block after this one on its list, or `NIL`, without counting an access: for reports.
+    pub fn peek_next(&self, block: u32) -> u32
+        requires { block < length self.now.links }
+        ensures { IfSome (slice_get self.now.links block) (λ l. result ≡ l.next) }
+    {
+        if block as usize >= self.descriptors.len() {
+            return NIL;
+        }
+        self.descriptors[block as usize].link.next
     }
 }
 

@@ -45,19 +45,19 @@ lost loss closed old new now b p q change s o k frames left n same page standing
 pub returns-in-Stays-clause-lost : goal.returns-in-Stays-clause-lost
 unfolding reduced
 returns-in-Stays-clause-lost c =
-    lost c.args.loss c.args.closed _ _ _ c.args.block _ _ c.lose.new.change c.standing-standing.result c.outcome_of-done.result outcome.Stays c.give_back.new.released _ 0 c.self.view_is c.in-Some.ensures.value c.standing-standing.ensures c.in_ok-lose.ensures.counts c.in_ok-lose.ensures.change
+    lost c.args.loss c.args.closed _ _ _ c.args.block _ _ c.lose.new.change c.standing-standing.result c.outcome_of-done.result outcome.Stays c.give_back.new.released _ 0 c.self.view_is c.occupant_mut-page.ensures.value c.standing-standing.ensures c.in_ok-lose.ensures.counts c.in_ok-lose.ensures.change
     c.outcome_of-done.ensures c.give_back.ensures c.in-Stays.is refl (λ y at. edits_none _ c.args.block y at) (omega arith)
 
 pub returns-in-Queued-clause-lost : goal.returns-in-Queued-clause-lost
 unfolding reduced
 returns-in-Queued-clause-lost c =
-    lost c.args.loss c.args.closed _ _ _ c.args.block _ _ c.lose.new.change c.standing-standing.result c.outcome_of-done.result outcome.Queued c.give_back.new.released _ 4 c.self.view_is c.in-Some.ensures.value c.standing-standing.ensures c.in_ok-lose.ensures.counts c.in_ok-lose.ensures.change
+    lost c.args.loss c.args.closed _ _ _ c.args.block _ _ c.lose.new.change c.standing-standing.result c.outcome_of-done.result outcome.Queued c.give_back.new.released _ 4 c.self.view_is c.occupant_mut-page.ensures.value c.standing-standing.ensures c.in_ok-lose.ensures.counts c.in_ok-lose.ensures.change
     c.outcome_of-done.ensures c.give_back.ensures c.in-Queued.is refl c.enqueue.ensures (omega arith)
 
 pub returns-in-Freed-clause-lost : goal.returns-in-Freed-clause-lost
 unfolding reduced
 returns-in-Freed-clause-lost c =
-    lost c.args.loss c.args.closed _ _ _ c.args.block _ _ c.lose.new.change c.standing-standing.result c.outcome_of-done.result outcome.Freed c.give_back.new.released _ 6 c.self.view_is c.in-Some.ensures.value c.standing-standing.ensures c.in_ok-lose.ensures.counts c.in_ok-lose.ensures.change
+    lost c.args.loss c.args.closed _ _ _ c.args.block _ _ c.lose.new.change c.standing-standing.result c.outcome_of-done.result outcome.Freed c.give_back.new.released _ 6 c.self.view_is c.occupant_mut-page.ensures.value c.standing-standing.ensures c.in_ok-lose.ensures.counts c.in_ok-lose.ensures.change
     c.outcome_of-done.ensures c.give_back.ensures c.in-Freed.is c.batch_of-left.ensures
     (λ y at. edits_as _ _ _ _ _ _ 6 6 c.leave_queue.ensures.edits.queue_is (omega arith) (edits_then _ _ _ _ _ _ _ _ 6 0 c.leave_queue.ensures.edits c.vacate.ensures)) (omega arith)
 
@@ -96,5 +96,8 @@ standing-standing-requires-clause-inside c = seen_inside _ _ _ c.args.block c.se
 pub standing-standing-requires-clause-occupied : goal.standing-standing-requires-clause-occupied
 standing-standing-requires-clause-occupied c = seen_taken _ _ _ c.args.block c.self.view_is c.requires.occupied
 
-pub page_mut-requires : goal.page_mut-requires
-page_mut-requires c = record { inside = seen_inside _ _ _ c.args.block c.self.view_is c.self.invariant c.requires.occupied }
+pub occupant_mut-page-requires-clause-inside : goal.occupant_mut-page-requires-clause-inside
+occupant_mut-page-requires-clause-inside c = seen_inside _ _ _ c.args.block c.self.view_is c.self.invariant c.requires.occupied
+
+pub occupant_mut-page-requires-clause-occupied : goal.occupant_mut-page-requires-clause-occupied
+occupant_mut-page-requires-clause-occupied c = seen_taken _ _ _ c.args.block c.self.view_is c.requires.occupied

@@ -1,4 +1,4 @@
-use Rattle.std.proofs.Common.{◌≡◌, ◌<◌, Some, length, sym, ap, ◌∙◌, subst, arith, slice_set}
+use Rattle.std.proofs.Common.{◌≡◌, ◌<◌, Some, is_some, length, sym, ap, ◌∙◌, subst, arith, slice_set}
 use Rattle.thp_history.specs.Prelude.{PageState, PageSplit, gives_frames}
 use Rattle.thp_page.specs.Prelude.{slot_at, Table}
 use Rattle.thp_page.proofs.TableSlots.{slot_at-inside}
@@ -13,9 +13,16 @@ set_standing-requires-clause-inside c = seen_inside _ _ _ c.args.block c.self.vi
 pub set_standing-requires-clause-occupied : goal.set_standing-requires-clause-occupied
 set_standing-requires-clause-occupied c = seen_taken _ _ _ c.args.block c.self.view_is c.requires.occupied
 
-pub page_mut-requires : goal.page_mut-requires
-page_mut-requires c =
-    record { inside = subst (λ (u : Table). c.args.block < length u.links) (sym c.set_standing.ensures) (seen_inside _ _ _ c.args.block c.self.view_is c.self.invariant c.requires.occupied) }
+pub occupant_mut-requires-clause-inside : goal.occupant_mut-requires-clause-inside
+occupant_mut-requires-clause-inside c =
+    subst (λ (u : Table). c.args.block < length u.links) (sym c.set_standing.ensures) (seen_inside _ _ _ c.args.block c.self.view_is c.self.invariant c.requires.occupied)
+
+pub occupant_mut-requires-clause-occupied : goal.occupant_mut-requires-clause-occupied
+occupant_mut-requires-clause-occupied c =
+    let t = c.self.inside.table in
+    let w = taken _ c.requires.occupied in
+    let at : slot_at t c.args.block ≡ Some w.0 = ap (λ (n : PageStoreState). slot_at n.table c.args.block) c.self.view_is ∙ w.1 in
+    ap is_some (stood_slot t c.set_standing.new.self c.args.block w.0 Nowhere at c.set_standing.ensures)
 
 pub split-requires-clause-whole : goal.split-requires-clause-whole
 split-requires-clause-whole c =
@@ -23,7 +30,7 @@ split-requires-clause-whole c =
     let b = c.args.block in
     let w = taken _ c.requires.occupied in
     let at : slot_at t b ≡ Some w.0 = ap (λ (n : PageStoreState). slot_at n.table b) c.self.view_is ∙ w.1 in
-    ap (λ (p : PageState). p.split) (page_there c.set_standing.new.self b (record w.0 { standing = Nowhere }) c.in-Some.page.now (stood_slot t c.set_standing.new.self b w.0 Nowhere at c.set_standing.ensures) c.in-Some.ensures.value)
+    ap (λ (p : PageState). p.split) (page_there c.set_standing.new.self b (record w.0 { standing = Nowhere }) c.occupant_mut.result.now (stood_slot t c.set_standing.new.self b w.0 Nowhere at c.set_standing.ensures) c.occupant_mut.ensures.value)
     ∙ (c.requires.allowed w.0 w.1).0
 
 pub split-requires-clause-unpinned : goal.split-requires-clause-unpinned
@@ -32,7 +39,7 @@ split-requires-clause-unpinned c =
     let b = c.args.block in
     let w = taken _ c.requires.occupied in
     let at : slot_at t b ≡ Some w.0 = ap (λ (n : PageStoreState). slot_at n.table b) c.self.view_is ∙ w.1 in
-    ap (λ (p : PageState). p.pins) (page_there c.set_standing.new.self b (record w.0 { standing = Nowhere }) c.in-Some.page.now (stood_slot t c.set_standing.new.self b w.0 Nowhere at c.set_standing.ensures) c.in-Some.ensures.value)
+    ap (λ (p : PageState). p.pins) (page_there c.set_standing.new.self b (record w.0 { standing = Nowhere }) c.occupant_mut.result.now (stood_slot t c.set_standing.new.self b w.0 Nowhere at c.set_standing.ensures) c.occupant_mut.ensures.value)
     ∙ (c.requires.allowed w.0 w.1).1
 
 pub returns : goal.returns
@@ -40,8 +47,8 @@ returns c = λ x e.
     let t = c.self.inside.table in
     let b = c.args.block in
     let at : slot_at t b ≡ Some x = ap (λ (n : PageStoreState). slot_at n.table b) c.self.view_is ∙ e in
-    let page : c.in-Some.page.now ≡ x.page =
-    page_there c.set_standing.new.self b (record x { standing = Nowhere }) c.in-Some.page.now (stood_slot t c.set_standing.new.self b x Nowhere at c.set_standing.ensures) c.in-Some.ensures.value in
+    let page : c.occupant_mut.result.now ≡ x.page =
+    page_there c.set_standing.new.self b (record x { standing = Nowhere }) c.occupant_mut.result.now (stood_slot t c.set_standing.new.self b x Nowhere at c.set_standing.ensures) c.occupant_mut.ensures.value in
     let P : PageState → Type 0 = λ p. PageSplit c.args.give_zero p c.split.new.self in (
       c.split.new.self,
       subst P page c.split.ensures.counts,
