@@ -13,7 +13,7 @@ import tempfile
 from dataclasses import replace
 from functools import partial
 from pathlib import Path
-from typing import Iterator
+from typing import Iterator, Sequence
 
 import faulty_texts
 import progress
@@ -24,7 +24,7 @@ from outside import FEW_BYTES, FIRST, FIRST_JOURNAL, FIRST_TOTALS, ILLEGAL, LEGA
 from process import Call, Ended, Sink, Source
 from script import first_illegal, summary
 from tally import Tally
-from texts import MOST_BYTES
+from texts import LARGE, MOST_BYTES, SMALL
 
 HELP = (STORED / "checker_help.txt").read_bytes()
 VERSION = (STORED / "checker_version.txt").read_bytes()
@@ -175,6 +175,74 @@ def scripts() -> Iterator[Row]:
         yield Row("script", f"standard output {sink.name.lower()}", Call(SCRIPT, LEGAL, output=sink), WRITE_FAILED)
 
 
+def nodes_of(blocks: Sequence[int], caller: int = 0, beyond: bytes = b"") -> bytes:
+    """A journal of version 4 of nodes with so many blocks, on each of which a caller allocates a page; and further lines before its end."""
+    lines = [b"node %d blocks %d order 9 underused off\n%d alloc 0\n" % (at, count, caller) for at, count in enumerate(blocks)]
+    return b"".join([b"thp-journal 4\n", *lines, beyond, b"end\n"])
+
+
+def script_of(blocks: Sequence[int]) -> bytes:
+    """The script of such a journal."""
+    script = b""
+    for at in range(len(blocks)):
+        lists = b",".join([b"9"] * (at + 1)), b",".join([b"off"] * (at + 1))
+        script += b"# thpsplit --nodes %d --blocks %d --orders %b --underused %b\n" % (at + 1, max(blocks[:at + 1]), *lists)
+        script += b"alloc %d\n" % at if at else b"setup\nalloc 0\n"
+    return script
+
+
+MOST_NODES = [1] * (SMALL.node + 1)
+"""The blocks of each node of a script with the most nodes."""
+
+BEYOND: tuple[tuple[list[int], int], ...] = (
+    (MOST_NODES, 1), ([], SMALL.blocks + 1), ([], LARGE.blocks), ([1, 1], SMALL.blocks + 1), (MOST_NODES, LARGE.blocks),
+)
+"""The blocks of nodes that a script can have, and those of a node after them that no script can have."""
+
+
+def script_limits() -> Iterator[Row]:
+    """Journals of version 4 whose numbers are the greatest that scripts have, or greater ones: the first such node is an error."""
+    for caller in (SMALL.caller, SMALL.caller + 1, LARGE.caller):
+        yield Row("script limits", f"caller {caller}", Call(SCRIPT, nodes_of([1], caller)), Ended(0, script_of([1])))
+    for blocks in (MOST_NODES, [SMALL.blocks], [1, SMALL.blocks], [SMALL.blocks] * len(MOST_NODES)):
+        yield Row("script limits", f"blocks {blocks}", Call(SCRIPT, nodes_of(blocks)), Ended(0, script_of(blocks)))
+    for front, most in BEYOND:
+        text, name = nodes_of([*front, most]), f"blocks {most} after {front}"
+        wanted = after(script_of(front), 2 + 2 * len(front))
+        for source in (Source.FILE, Source.PIPE):
+            yield Row("script limits", f"{name}, {source.name.lower()}", Call(SCRIPT, text, source), wanted)
+        yield Row("script limits", f"{name}, explained", Call(SCRIPT + EXPLAIN, text), wanted)
+        yield Row("script limits", f"{name}, without --script", Call((), text), IS_LEGAL)
+    text, wanted = nodes_of([1] * (LARGE.node + 1)), after(script_of(MOST_NODES), 2 + 2 * len(MOST_NODES))
+    yield Row("script limits", "65,536 nodes", Call(SCRIPT, text), wanted)
+    yield from late_limits()
+
+
+def late_limits() -> Iterator[Row]:
+    """Such a node after other events, before or after an error of the text, and one that isn't the next node."""
+    script, beyond = script_of([1]), b"node 1 blocks %d order 9 underused off\n" % (SMALL.blocks + 1)
+    queued = b"0 splitpmd 0\n0 unmapsub 0 0 256 queued -\n0 taken 0\n"
+    commands = script + b"splitpmd 0 0\nunmap 0 0 0 256\n"
+    yield limit_row("after an illegal event", b"0 alloc 0\n" + beyond, after(script, 5))
+    yield limit_row("after a batch", queued + beyond, after(commands, 7))
+    yield limit_row("after a batch that has ended", queued + b"0 split 0 0-255\n" + beyond, after(commands + b"scan 0 1\n", 8))
+    yield limit_row("before an error of the text", beyond + b"fly\n", after(script, 4))
+    yield limit_row("after an error of the text", b"fly\n" + beyond, after(script, 4, "bad-word"))
+    for number, word in ((SMALL.node, "bad-order"), (SMALL.node + 1, "bad-number")):
+        line = b"node %d blocks 1 order 9 underused off\n" % number
+        yield limit_row(f"node {number} after node 0", line, after(script, 4, word))
+
+
+def limit_row(name: str, beyond: bytes, wanted: Ended) -> Row:
+    """What `--script` does for a journal of one node and further lines."""
+    return Row("script limits", name, Call(SCRIPT, nodes_of([1], 0, beyond)), wanted)
+
+
+def after(script: bytes, line: int, word: str = "bad-number") -> Ended:
+    """An error after a script was written."""
+    return replace(fault(line, word), output=script)
+
+
 def checked_front(text: bytes) -> bytes:
     """The first lines of the script of a journal whose first event is illegal."""
     blocks = text.split(b"\n")[1].split()[3]
@@ -294,7 +362,9 @@ def main() -> None:
         # its name is what it is called by, whatever its file's is
         path = Path(name) / "thpcheck"
         path.symlink_to(program.resolve())
-        for part in (verdicts, explanations, summaries, scripts, faults, long_journals, many_nodes, requests, failures, shown):
+        for part in (
+            verdicts, explanations, summaries, scripts, script_limits, faults, long_journals, many_nodes, requests, failures, shown,
+        ):
             rows, passed = list(part()), tally.passed
             for row in rows:
                 tally.run(f"{row.group}: {row.name}", partial(row.wrong, path))

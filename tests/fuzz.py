@@ -31,11 +31,12 @@ import random_journals
 import random_texts
 import random_words
 import usage
+from limit_journals import SUBJECTS, limit_texts, node_line
 from model import REFUSALS
 from process import Ended, Word
 from random_texts import Script, joined
 from script import Run, first_illegal, sections_of, summary
-from texts import COMMANDS, EVENTS, FAULT_WORDS, LARGE_VERSION, MOST_BYTES, VERSION, BadText, journal_fault, number, script_fault
+from texts import COMMANDS, EVENTS, FAULT_WORDS, LARGE, LARGE_VERSION, MOST_BYTES, VERSION, BadText, journal_fault, number, script_fault
 
 SECONDS = 600 if os.environ.get("EMULATED") == "1" else 60
 """A run that takes longer counts as different. Under an emulator the start of 63 threads can take half a minute on a loaded machine."""
@@ -116,19 +117,19 @@ def cover_run(case: Case, script: Script, journal: list[str]) -> None:
 def checked(case: Case, name: str, text: bytes, newest: int = VERSION) -> Probe:
     """A journal for the check: its first error, otherwise its first illegal line, otherwise that it is legal. `newest`: the newest version
     that the program reads, which is `thpcheck` where that is 4."""
-    program, words = ("thpsplit", ("--check",)) if newest == VERSION else ("thpcheck", ())
+    program, words, of = ("thpsplit", ("--check",), "") if newest == VERSION else ("thpcheck", (), " by thpcheck")
     for word in words:
         case.cover("options", word)
     fault = journal_fault(text, newest)
     if fault is not None:
-        case.cover("faults of journals", fault.word)
+        case.cover("faults of journals" + of, fault.word)
         return Probe(name, words, text, Ended(2, b"", fault.message(program)), program)
     line = first_illegal(text.decode().split("\n")[:-1])
     if line is None:
-        case.cover("verdicts", "legal")
+        case.cover("verdicts" + of, "legal")
         return Probe(name, words, text, Ended(0, b"legal\n"), program)
-    case.cover("verdicts", "illegal")
-    case.cover("illegal events", text.split(b"\n")[line - 1].decode().split(" ")[1])
+    case.cover("verdicts" + of, "illegal")
+    case.cover("illegal events" + of, text.split(b"\n")[line - 1].decode().split(" ")[1])
     return Probe(name, words, text, Ended(1, f"illegal line {line}\n".encode()), program)
 
 
@@ -136,11 +137,13 @@ def large_journals(case: Case) -> Iterator[Probe]:
     """A journal of version 4, and changes of it: the verdict and the totals of `thpcheck`; in version 3, if it is within that one's limits,
     the same verdict, also of `thpsplit`, which refuses version 4. And texts at the limits of versions."""
     chance = case.chance
-    kind = "every node" if (case.place + 1) % 1000 == 0 else chance.choice(LARGE_KINDS)
-    lines, numbering = random_journals.random_large(chance, kind)
+    kind = chance.choice(random_journals.RARE) if (case.place + 1) % 500 == 0 else chance.choice(LARGE_KINDS)
+    journal = random_journals.random_large(chance, kind)
     case.cover("journals of version 4", kind)
-    case.cover("callers of version 4", numbering)
-    text = joined(lines)
+    case.cover("callers of version 4", journal.numbering)
+    for use in journal.uses:
+        case.cover("blocks with live pages", use)
+    lines, text = journal.lines, joined(journal.lines)
     verdict = checked(case, "large", text, LARGE_VERSION)
     totals = Ended(verdict.wanted.status, verdict.wanted.output + joined(summary(lines)))
     yield from (verdict, Probe("totals", ("--summary",), text, totals, "thpcheck"))
@@ -153,9 +156,13 @@ def large_journals(case: Case) -> Iterator[Probe]:
         yield checked(case, "by-thpsplit", text)
     yield checked(case, "changed", joined(random_texts.changed_journal(chance, lines)), LARGE_VERSION)
     yield checked(case, "spoilt", random_texts.spoilt(chance, text, EVENTS), LARGE_VERSION)
-    name, at_limit = chance.choice([*random_journals.limit_texts()])
-    case.cover("limits of versions", name)
-    yield checked(case, "limit", joined(at_limit), LARGE_VERSION)
+    yield checked(case, "number", joined(random_journals.with_other_number(chance, lines)), LARGE_VERSION)
+    yield checked(case, "order", joined(random_journals.with_other_order(chance, lines)), LARGE_VERSION)
+    if kind == "every node":
+        yield checked(case, "node-beyond", joined([*lines[:-1], node_line(LARGE_VERSION, LARGE.node + 1), "end"]), LARGE_VERSION)
+    for place, (subject, at_limit) in enumerate(chance.sample(LIMIT_TEXTS, 8)):
+        case.cover("limits of versions", subject)
+        yield checked(case, f"limit-{place}", joined(at_limit), LARGE_VERSION)
 
 
 def one_worker(case: Case) -> Iterator[Probe]:
@@ -257,6 +264,7 @@ KINDS: dict[str, Callable[[Case], Iterator[Probe]]] = {
     "a count at its limit": limit,
     "journals of version 4": large_journals,
 }
+LIMIT_TEXTS = limit_texts()
 LARGE_KIND = "journals of version 4"
 LARGE_KINDS = ("few",) * 30 + ("many callers", "many pages", "many nodes")
 KIND_OF = ("one worker", "workers on nodes of their own", "spoilt scripts", "one worker", "spoilt journals",
@@ -291,7 +299,11 @@ TO_COVER: dict[str, tuple[str, ...]] = {
 TO_COVER_LARGE: dict[str, tuple[str, ...]] = {
     "journals of version 4": (*dict.fromkeys(LARGE_KINDS), "also of version 3"),
     "callers of version 4": ("dense", "sparse"),
-    "limits of versions": tuple(name for name, _ in random_journals.limit_texts()),
+    "blocks with live pages": ("none of 1", "all of 1", "few of 4096", "few of 4097", "few of 16777216", "many of 16777216"),
+    "limits of versions": tuple(SUBJECTS),
+    "verdicts by thpcheck": ("legal", "illegal"),
+    "faults of journals by thpcheck": tuple(word for word in FAULT_WORDS if word not in ("too-long", "bad-set")),
+    "illegal events by thpcheck": ("alloc", "splitpmd", "unmapsub", "taken", "split", "back"),
 }
 """What is to be covered by journals of version 4."""
 

@@ -2,10 +2,11 @@
 
     tests/repeats.py CHECKER PROGRAM [--cases N] [--seed S]
 
-The journals are those of the model in model.py. For one caller, and for callers whose batches are not open at once, the script must
-repeat the journal byte for byte, except for the callers' numbers. For others it must make the same calls, its commands and the lines
-about what it moves must be those of a plain reading (plain_scripts.py), and the number of tries in another order than the takes must be
-reported. For an illegal journal it must be the script of the events before the illegal one.
+The journals are those of the model in model.py, some of version 4 for their callers. For one caller, and for callers whose batches are
+not open at once, the script must repeat the journal byte for byte, except for the callers' numbers (and version 4, which no script needs).
+For others it must make the same calls, its commands and the lines about what it moves must be those of a plain reading (plain_scripts.py),
+and the number of tries in another order than the takes must be reported. For an illegal journal it must be the script of the events before
+the illegal one.
 """
 
 from __future__ import annotations
@@ -20,16 +21,18 @@ from typing import Callable, Optional
 
 from model import Refused
 from plain_scripts import BATCH_EVENTS, CALLS, OPERANDS, TRIES, plain_script
+from random_journals import as_version
 from random_texts import (
     Script, changed_journal, joined, likely_words, operands, random_commands, random_shapes, script_of_many, script_of_one,
 )
 from script import Run, first_illegal
 from tally import Tally
-from texts import journal_fault
+from texts import LARGE, LARGE_VERSION, SMALL, VERSION, journal_fault
 
 SECONDS = 60
 BATCH_COMMANDS = ("scan", "take", "splitnext", "putback")
-CALLERS = (0, 1, 2, 63)
+CALLERS = (0, 1, 2, SMALL.caller)
+FAR_CALLERS = (0, SMALL.caller, SMALL.caller + 1, LARGE.caller)
 
 
 def checked(checker: Path, words: list[str], journal: bytes) -> tuple[int, bytes, bytes]:
@@ -53,6 +56,14 @@ def repeated(program: Path, script: bytes) -> bytes:
 def by_caller_0(journal: list[str]) -> bytes:
     """The journal as that of caller 0."""
     return joined([" ".join(("0", *line.split()[1:])) if line[0].isdigit() else line for line in journal])
+
+
+def is_repeated(again: bytes, journal: list[str]) -> bool:
+    """Whether a journal is another one as that of caller 0; if that is of version 4, it may be of a lower one."""
+    wanted = by_caller_0(journal)
+    if journal[0] != f"thp-journal {LARGE_VERSION}":
+        return again == wanted
+    return as_version(again.decode().splitlines(), VERSION) == as_version(wanted.decode().splitlines(), VERSION)
 
 
 def calls_of(journal: list[str]) -> list[str]:
@@ -106,7 +117,7 @@ def repeats(checker: Path, program: Path, journal: list[str]) -> Optional[str]:
     status, script, errors = checked(checker, ["--script"], joined(journal))
     if (status, errors) != (0, b""):
         return f"status {status}, {errors!r}"
-    return None if repeated(program, script) == by_caller_0(journal) else "another journal"
+    return None if is_repeated(repeated(program, script), journal) else "another journal"
 
 
 def one_caller(chance: Random, checker: Path, program: Path) -> Optional[str]:
@@ -125,10 +136,10 @@ def callers_apart(chance: Random, checker: Path, program: Path) -> Optional[str]
 
 def mixed_journal(chance: Random, in_turn: bool = True) -> list[str]:
     """A journal of callers whose commands alternate, so that their batches are open at once; tries are in any order unless `in_turn`."""
-    run = Run(random_shapes(chance, chance.choice((1, 1, 2))))
-    batches: dict[int, dict[int, list[int]]] = {caller: {} for caller in CALLERS}
+    run, callers = Run(random_shapes(chance, chance.choice((1, 1, 2)))), chance.choice((CALLERS, FAR_CALLERS))
+    batches: dict[int, dict[int, list[int]]] = {caller: {} for caller in callers}
     for _ in range(chance.randrange(120)):
-        caller, number = chance.choice(CALLERS), chance.randrange(len(run.nodes))
+        caller, number = chance.choice(callers), chance.randrange(len(run.nodes))
         run.batches = batches[caller]
         word = chance.choice(likely_words(run, number))
         try:
@@ -137,7 +148,7 @@ def mixed_journal(chance: Random, in_turn: bool = True) -> list[str]:
             pass
         if word == "take" and not in_turn:
             chance.shuffle(run.batches.get(number, []))
-    for caller in CALLERS if chance.random() < 0.8 else ():
+    for caller in callers if chance.random() < 0.8 else ():
         run.batches = batches[caller]
         run.end(caller)
     return run.journal()
@@ -158,7 +169,7 @@ def makes_same_calls(checker: Path, program: Path, journal: list[str]) -> Option
     if calls_in(script) != calls_of(journal):
         return "other calls"
     again = repeated(program, script)
-    if not errors and again != by_caller_0(journal):
+    if not errors and not is_repeated(again, journal):
         return "another journal, without a word about it"
     if checked(checker, [], again) != (0, b"legal\n", b""):
         return "an illegal journal"
@@ -201,7 +212,7 @@ def tries_mixed(chance: Random, checker: Path, program: Path) -> Optional[str]:
 def illegal(chance: Random, checker: Path, program: Path) -> Optional[str]:
     """A journal with a change, which is mostly illegal."""
     journal = changed_journal(chance, mixed_journal(chance))
-    if journal_fault(joined(journal)) is not None:
+    if journal_fault(joined(journal), LARGE_VERSION) is not None:
         return None
     line = first_illegal(journal)
     status, script, errors = checked(checker, ["--script"], joined(journal))
