@@ -195,13 +195,13 @@ linux:
 	@python3 -m linux.replay --program $(PROGRAM) --random $(CASES) --seed $(SEED) --quiet
 
 linux-vm:
-	@python3 linux/tests/run.py -p vm_trials.py
+	@python3 tests/run.py linux/tests -p vm_trials.py
 
 linux-programs:
-	@python3 linux/tests/run.py -p program_trials.py
+	@python3 tests/run.py linux/tests -p program_trials.py
 
 root-tests:
-	@for script in $(notdir $(wildcard linux/tests/root_*.py)); do echo "== $$script"; python3 linux/tests/run.py -p $$script || test $$? = 77 || failed=1; done; test -z "$$failed"
+	@for script in $(notdir $(wildcard linux/tests/root_*.py)); do echo "== $$script"; python3 tests/run.py linux/tests -v -p $$script || test $$? = 77 || failed=1; done; test -z "$$failed"
 
 bench:
 	@bash bench/run

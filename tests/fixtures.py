@@ -1,0 +1,67 @@
+"""What tests share: built programs, tools of this machine, temporary folders, and a test method for each row of a table."""
+
+from __future__ import annotations
+
+import os
+import re
+import shutil
+import tempfile
+from collections.abc import Callable, Iterable
+from pathlib import Path
+from typing import TypeVar, Union
+from unittest import SkipTest, TestCase
+
+ROOT = Path(__file__).resolve().parent.parent
+
+BUILT = {
+    "THPSPLIT": "crates/thpsplit/out/thpsplit", "THPCHECK": "crates/thpcheck/out/thpcheck", "THPDRAW": "crates/thpdraw/out/thpdraw",
+    "LIBTHP_C": "crates/thp_c/out/libthp_c.a",
+}
+"""What can be under test: the environment variable with its path, and where the tree builds it."""
+
+Case = TypeVar("Case", bound=TestCase)
+
+
+def built(variable: str) -> Path:
+    """Returns the path in an environment variable, or that of what the tree built. Skips the test if there is neither."""
+    given, path = os.environ.get(variable), ROOT / BUILT[variable]
+    if given:
+        path = Path(given).resolve()
+        if not path.is_file() or variable != "LIBTHP_C" and not os.access(path, os.X_OK):
+            raise ValueError(f"{variable}={given} is no {'archive' if variable == 'LIBTHP_C' else 'program'}")
+    elif not path.is_file():
+        raise SkipTest(f"no {BUILT[variable]}; {variable}=PATH names another")
+    return path
+
+
+def need(tool: str) -> None:
+    """Skips the test if this machine lacks a tool."""
+    if shutil.which(tool) is None:
+        raise SkipTest(f"no {tool} here")
+
+
+def temporary_folder(case: Union[TestCase, type[TestCase]]) -> Path:
+    """Returns a new folder, which is removed after the test, or after all tests of a class."""
+    made = tempfile.TemporaryDirectory(prefix="thp-test-")
+    add = case.addClassCleanup if isinstance(case, type) else case.addCleanup
+    add(made.cleanup)
+    return Path(made.name)
+
+
+def add_tests(case: type[Case], rows: Iterable[tuple[str, Callable[[Case], object]]]) -> None:
+    """Adds a test method for each row, which fails with the text that the row's function returns, if any. The method is named after the
+    row, with `_` for all that is no letter or digit, and with a number from the second row of that name on."""
+    for name, check in rows:
+        method = first = f"test_{re.sub(r'[^0-9A-Za-z]+', '_', name).strip('_')}"
+        count = 1
+        while hasattr(case, method):
+            count += 1
+            method = f"{first}_{count}"
+
+        def test(self: Case, check: Callable[[Case], object] = check) -> None:
+            wrong = check(self)
+            if wrong:
+                self.fail(wrong)
+
+        test.__name__, test.__doc__ = method, name
+        setattr(case, method, test)
