@@ -147,10 +147,7 @@ GIVEN = $(if $(filter command% environment%,$(origin PROGRAM)),$(PROGRAM))
 
 outside:
 	@python3 tests/docs.py
-	@python3 tests/surface.py
-	@python3 tests/installed.py
-	@python3 tests/release.py
-	@python3 tests/lint.py || test $$? = 77
+	@for name in surface installed release lint; do python3 tests/run.py -p test_$$name.py || test $$? = 77 || failed=1; done; test -z "$$failed"
 	@python3 tests/examples.py $(GIVEN)
 	@$(if $(GIVEN),python3 tests/rows.py $(GIVEN))
 	@$(if $(GIVEN),python3 tests/spoilt.py $(GIVEN))

@@ -8,7 +8,7 @@ import shutil
 import tempfile
 from collections.abc import Callable, Iterable
 from pathlib import Path
-from typing import TypeVar, Union
+from typing import Optional, TypeVar, Union
 from unittest import SkipTest, TestCase
 
 ROOT = Path(__file__).resolve().parent.parent
@@ -20,6 +20,7 @@ BUILT = {
 """What can be under test: the environment variable with its path, and where the tree builds it."""
 
 Case = TypeVar("Case", bound=TestCase)
+Row = TypeVar("Row")
 
 
 def built(variable: str) -> Path:
@@ -48,19 +49,19 @@ def temporary_folder(case: Union[TestCase, type[TestCase]]) -> Path:
     return Path(made.name)
 
 
-def add_tests(case: type[Case], rows: Iterable[tuple[str, Callable[[Case], object]]]) -> None:
-    """Adds a test method for each row, which fails with the text that the row's function returns, if any. The method is named after the
-    row, with `_` for all that is no letter or digit, and with a number from the second row of that name on."""
-    for name, check in rows:
+def add_tests(case: type[Case], check: Callable[[Case, Row], Optional[str]], rows: Iterable[tuple[str, Row]]) -> None:
+    """Adds a test method for each name and row, which fails with the text that a check of the row returns, if any. The method is named
+    after the row, with `_` for all that is no letter or digit, and with a number from the second row of that name on."""
+    for name, row in rows:
         method = first = f"test_{re.sub(r'[^0-9A-Za-z]+', '_', name).strip('_')}"
         count = 1
         while hasattr(case, method):
             count += 1
             method = f"{first}_{count}"
 
-        def test(self: Case, check: Callable[[Case], object] = check) -> None:
-            wrong = check(self)
-            if wrong:
+        def test(self: Case, row: Row = row) -> None:
+            wrong = check(self, row)
+            if wrong is not None:
                 self.fail(wrong)
 
         test.__name__, test.__doc__ = method, name

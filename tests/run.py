@@ -49,7 +49,9 @@ class CountingResult(unittest.TestResult):
         """Prints what failed, and returns the number of test methods."""
         wrong = [*self.errors, *self.failures, *((test, "it passed\n") for test in self.unexpectedSuccesses)]
         for test, text in wrong:
-            print(f"FAIL: {test.id()}: {text.strip().splitlines()[-1]}\n{text}", end="", flush=True)
+            lines = text.rpartition("Traceback")[2].splitlines()[1:]
+            what = next((line for line in lines if not line.startswith(" ")), text.strip())
+            print(f"FAIL: {test.id()}: {what}\n{text}", end="", flush=True)
         return len({getattr(test, "test_case", test).id() for test, _ in wrong})
 
     def skip(self) -> int:
