@@ -148,8 +148,8 @@ GIVEN = $(if $(filter command% environment%,$(origin PROGRAM)),$(PROGRAM))
 outside:
 	@python3 tests/docs.py
 	@for name in surface installed release lint; do python3 tests/run.py -p test_$$name.py || test $$? = 77 || failed=1; done; test -z "$$failed"
-	@python3 tests/examples.py $(GIVEN)
-	@$(if $(GIVEN),python3 tests/rows.py $(GIVEN))
+	@$(if $(GIVEN),THPSPLIT=$(GIVEN),TRY=1) python3 tests/run.py -p test_examples.py $(if $(GIVEN),,-k Examples) || test $$? = 77
+	@$(if $(GIVEN),THPSPLIT=$(GIVEN) python3 tests/run.py -p test_rows.py)
 	@$(if $(GIVEN),python3 tests/spoilt.py $(GIVEN))
 	@$(if $(GIVEN),python3 tests/outside.py $(GIVEN))
 	@$(if $(GIVEN),python3 tests/outside.py --self-test $(GIVEN))

@@ -19,15 +19,16 @@ from typing import Iterable, Iterator
 import explanations
 import naming
 import outside
-import rows
+import test_rows
 import wording
 import workers
 import wrong_programs
 from believe import CLAIMED
 from believe import count as believed
 from contracts import clauses
-from examples import ROOT, beside, cases, shown
+from fixtures import ROOT
 from tally import Missing, Tally
+from test_examples import beside, cases, shown
 
 MOST_LINES = 120
 """The most lines of README.md."""
@@ -291,7 +292,7 @@ def counts_are_right() -> str | None:
     counts = {
         r"gate tries the (\d+) in": len(GATE_EDITS),
         r"and the (\d+) in `tests/edits`": len(OTHER_EDITS),
-        r"`tests/rows.py` \| (\d+) ": len(rows.ROWS),
+        r"`tests/test_rows.py` \| (\d+) ": len(test_rows.ROWS),
         r"`thpsplit`: (\d+) calls": len(outside.rows()),
         r"(\d+) wrong programs": len(wrong_programs.WRONG),
         r"(\d+) explained journals": len(explanations.EXPLAINED),

@@ -49,6 +49,20 @@ def temporary_folder(case: Union[TestCase, type[TestCase]]) -> Path:
     return Path(made.name)
 
 
+class ProgramCase(TestCase):
+    """Tests of a program: thpsplit, or another one by its variable. It is called by its own name, which its messages contain."""
+
+    variable = "THPSPLIT"
+    program: Path
+
+    @classmethod
+    def setUpClass(cls) -> None:
+        """Finds the program, or skips the tests."""
+        path = built(cls.variable)
+        cls.program = temporary_folder(cls) / cls.variable.lower()
+        cls.program.symlink_to(path)
+
+
 def add_tests(case: type[Case], check: Callable[[Case, Row], Optional[str]], rows: Iterable[tuple[str, Row]]) -> None:
     """Adds a test method for each name and row, which fails with the text that a check of the row returns, if any. The method is named
     after the row, with `_` for all that is no letter or digit, and with a number from the second row of that name on."""

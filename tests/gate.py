@@ -43,9 +43,12 @@ CHECKERS = ("crates/thpcheck/out/thpcheck", "crates/thpcheck/out/thpcheck.by-rat
 DRAWERS = ("crates/thpdraw/out/thpdraw", "crates/thpdraw/out/thpdraw.by-rattle")
 """The same for the program that draws them."""
 
-BY_EACH = ("tests/examples.py", "tests/rows.py", "tests/outside.py", "tests/large.py", "tests/workers.py",
+BY_EACH = ("tests/test_examples.py", "tests/test_rows.py", "tests/outside.py", "tests/large.py", "tests/workers.py",
            "tests/streams.py")
 """The tests of a program."""
+
+EXAMPLES = ("tests/run.py", "-p", "test_examples.py", "-k", "Examples")
+"""Those of them that need no built program."""
 
 BY_ONE = ("tests/spoilt.py",)
 """The tests of a program that take longer, for one of them."""
@@ -256,7 +259,7 @@ def main() -> None:
     if programs and checkers and drawers and archives:
         gate.add("package.py", [sys.executable, "tests/package.py", programs[0], checkers[0], drawers[0], archives[0]])
     if not programs:
-        gate.add("examples.py", [sys.executable, "tests/examples.py"])
+        gate.add("examples by rt try", [sys.executable, *EXAMPLES], {"TRY": "1"})
         gate.skip("the program from outside", "rt ci has built none")
     gate.end()
 

@@ -8,7 +8,7 @@ from collections import Counter
 from pathlib import Path
 from typing import Iterator
 
-from examples import ROOT
+from fixtures import ROOT
 
 SHARED: dict[str, str] = {}
 """Names that two definitions may share, each with its reason. At most `MOST_SHARED`."""

@@ -1,21 +1,16 @@
 """Rows of scripts by their names: the program's answers to each, its totals and its journal.
 
-    tests/rows.py PROGRAM
-
 The expected results of each row are written out. Its journal must be legal by the check. ` / ` separates the lines of a text.
 """
 
 from __future__ import annotations
 
-import os
-import sys
 from dataclasses import dataclass
-from functools import partial
 from pathlib import Path
 from typing import Optional
 
+from fixtures import ProgramCase, add_tests
 from process import Call, Ended, run
-from tally import Tally
 
 
 def lines(text: str) -> bytes:
@@ -439,41 +434,31 @@ def check(program: Path, journal: bytes) -> Optional[str]:
     return run(program, Call(("--check",), journal)).differs_from(Ended(0, b"legal\n"))
 
 
-def counts_at_their_limit(program: Path) -> Optional[str]:
-    """What is wrong with the answers to map counts and pins at their limit, or with the journal; or None."""
-    commands = [command for command, times, _ in AT_THEIR_LIMIT for _ in range(times)]
-    answers = [answer for _, times, answer in AT_THEIR_LIMIT for _ in range(times)]
-    script = lines(" / ".join(["setup", *commands]))
-    wanted = lines(" / ".join(f"0 {index} {answer}" for index, answer in enumerate(answers, 1)))
-    reported = run(program, Call(("--report", "answers"), script)).differs_from(Ended(0, wanted))
-    return reported or check(program, run(program, Call(("--report", "journal"), script)).output)
+class Rows(ProgramCase):
+    """Each row of the tables, and two runs that are longer or have two results."""
+
+    def check(self, row: Row | Totals) -> Optional[str]:
+        """Returns how a report of a row differs from the expected one, or None."""
+        return row.wrong(self.program)
+
+    def test_counts_at_their_limit(self) -> None:
+        """Map counts and pins at their limit have these answers, and a legal journal."""
+        commands = [command for command, times, _ in AT_THEIR_LIMIT for _ in range(times)]
+        answers = [answer for _, times, answer in AT_THEIR_LIMIT for _ in range(times)]
+        script = lines(" / ".join(["setup", *commands]))
+        wanted = lines(" / ".join(f"0 {index} {answer}" for index, answer in enumerate(answers, 1)))
+        self.assertIsNone(run(self.program, Call(("--report", "answers"), script)).differs_from(Ended(0, wanted)))
+        self.assertIsNone(check(self.program, run(self.program, Call(("--report", "journal"), script)).output))
+
+    def test_two_workers(self) -> None:
+        """Each report of two workers on one node is one that either order can produce, and the journal is legal."""
+        for report, texts in EITHER.items():
+            with self.subTest(report=report):
+                reported = run(self.program, Call(("--workers", "2", "--report", report), lines(TWO_WORKERS)))
+                self.assertIn(reported, [Ended(0, lines(text)) for text in texts])
+                if report == "journal":
+                    self.assertIsNone(check(self.program, reported.output))
 
 
-def two_workers(program: Path) -> Optional[str]:
-    """What a report of two workers on one node contains that neither order can produce; or None."""
-    for report, texts in EITHER.items():
-        reported = run(program, Call(("--workers", "2", "--report", report), lines(TWO_WORKERS)))
-        if reported not in [Ended(0, lines(text)) for text in texts]:
-            return f"{report}: {reported}"
-        if report == "journal" and check(program, reported.output) is not None:
-            return f"an illegal journal: {reported}"
-    return None
-
-
-def main() -> None:
-    """Tests the program of the command line."""
-    program = Path(sys.argv[-1])
-    if len(sys.argv) != 2 or not os.access(program, os.X_OK) or program.is_dir():
-        sys.exit(f"{program} is no program\n\n{__doc__}")
-    tally = Tally()
-    for row in ROWS:
-        tally.run(row.name, partial(row.wrong, program))
-    for whole in WHOLE:
-        tally.run(f"{whole.name}: totals", partial(whole.wrong, program))
-    tally.run("counts_at_their_limit", lambda: counts_at_their_limit(program))
-    tally.run("two_workers", lambda: two_workers(program))
-    tally.end()
-
-
-if __name__ == "__main__":
-    main()
+add_tests(Rows, Rows.check, ((row.name, row) for row in ROWS))
+add_tests(Rows, Rows.check, ((f"{whole.name}: totals", whole) for whole in WHOLE))
