@@ -150,9 +150,9 @@ outside:
 	@for name in surface installed release lint; do python3 tests/run.py -p test_$$name.py || test $$? = 77 || failed=1; done; test -z "$$failed"
 	@$(if $(GIVEN),THPSPLIT=$(GIVEN),TRY=1) python3 tests/run.py -p test_examples.py $(if $(GIVEN),,-k Examples) || test $$? = 77
 	@$(if $(GIVEN),THPSPLIT=$(GIVEN) python3 tests/run.py -p test_rows.py)
+	@$(if $(GIVEN),THPSPLIT=$(GIVEN) python3 tests/run.py -p test_outside.py)
+	@$(if $(GIVEN),THPSPLIT=$(GIVEN) python3 tests/run.py -p test_wrong_programs.py)
 	@$(if $(GIVEN),python3 tests/spoilt.py $(GIVEN))
-	@$(if $(GIVEN),python3 tests/outside.py $(GIVEN))
-	@$(if $(GIVEN),python3 tests/outside.py --self-test $(GIVEN))
 	@$(if $(GIVEN),python3 tests/large.py $(GIVEN))
 	@$(if $(GIVEN),python3 tests/workers.py $(GIVEN))
 	@$(if $(GIVEN),python3 tests/streams.py $(GIVEN) || test $$? = 77)

@@ -32,7 +32,7 @@ LIBRARIES = "/usr/aarch64-linux-gnu"
 
 PROGRAMS = ("thpsplit", "thpcheck", "thpdraw")
 
-SCRIPTS = {"thpsplit": ("test_rows.py", "outside.py", "workers.py"), "thpcheck": ("checker.py",), "thpdraw": ("drawer.py",)}
+SCRIPTS = {"thpsplit": ("test_rows.py", "test_outside.py", "workers.py"), "thpcheck": ("checker.py",), "thpdraw": ("drawer.py",)}
 """The tests of each program."""
 
 SECONDS = 3600

@@ -19,6 +19,9 @@ BUILT = {
 }
 """What can be under test: the environment variable with its path, and where the tree builds it."""
 
+UNNAMED = re.compile(r"(?:\\n|[^0-9A-Za-z])+")
+"""What the name of a test method can't contain, and escaped line feeds."""
+
 Case = TypeVar("Case", bound=TestCase)
 Row = TypeVar("Row")
 
@@ -67,7 +70,7 @@ def add_tests(case: type[Case], check: Callable[[Case, Row], Optional[str]], row
     """Adds a test method for each name and row, which fails with the text that a check of the row returns, if any. The method is named
     after the row, with `_` for all that is no letter or digit, and with a number from the second row of that name on."""
     for name, row in rows:
-        method = first = f"test_{re.sub(r'[^0-9A-Za-z]+', '_', name).strip('_')}"
+        method = first = f"test_{UNNAMED.sub('_', name).strip('_')}"
         count = 1
         while hasattr(case, method):
             count += 1

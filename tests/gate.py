@@ -43,14 +43,14 @@ CHECKERS = ("crates/thpcheck/out/thpcheck", "crates/thpcheck/out/thpcheck.by-rat
 DRAWERS = ("crates/thpdraw/out/thpdraw", "crates/thpdraw/out/thpdraw.by-rattle")
 """The same for the program that draws them."""
 
-BY_EACH = ("tests/test_examples.py", "tests/test_rows.py", "tests/outside.py", "tests/large.py", "tests/workers.py",
+BY_EACH = ("tests/test_examples.py", "tests/test_rows.py", "tests/test_outside.py", "tests/large.py", "tests/workers.py",
            "tests/streams.py")
 """The tests of a program."""
 
 EXAMPLES = ("tests/run.py", "-p", "test_examples.py", "-k", "Examples")
 """Those of them that need no built program."""
 
-BY_ONE = ("tests/spoilt.py",)
+BY_ONE = ("tests/spoilt.py", "tests/test_wrong_programs.py")
 """The tests of a program that take longer, for one of them."""
 
 CEILINGS = ("bench/ceilings.py", "--kinds", "churn,counts,clash")
@@ -207,7 +207,6 @@ def test_programs(gate: Gate, programs: list[str], began: float) -> None:
         for path in BY_ONE:
             gate.add_file(path, THPSPLIT=program)
         gate.add(Path(CEILINGS[0]).name, [sys.executable, *CEILINGS, program])
-        gate.add("outside.py --self-test", [sys.executable, "tests/outside.py", "--self-test", program])
         rows = [f"{path}:{REFUSED}" for path in made_since(began, (SPOILT,))]
         gate.add("memory.py", [sys.executable, "tests/memory.py", program, *rows])
 
