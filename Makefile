@@ -57,7 +57,7 @@ deps:
 
 # reports if the installed toolchain is not the one that everything was proved with
 toolchain:
-	@python3 tests/docs.py toolchain
+	@python3 tests/toolchain.py
 
 try: toolchain
 	@cd crates/thpsplit && rt try < ../../$(SCRIPT)
@@ -146,8 +146,7 @@ test: toolchain
 GIVEN = $(if $(filter command% environment%,$(origin PROGRAM)),$(PROGRAM))
 
 outside:
-	@python3 tests/docs.py
-	@for name in surface installed release lint; do python3 tests/run.py -p test_$$name.py || test $$? = 77 || failed=1; done; test -z "$$failed"
+	@for name in docs surface installed release lint; do python3 tests/run.py -p test_$$name.py || test $$? = 77 || failed=1; done; test -z "$$failed"
 	@$(if $(GIVEN),THPSPLIT=$(GIVEN),TRY=1) python3 tests/run.py -p test_examples.py $(if $(GIVEN),,-k Examples) || test $$? = 77
 	@$(if $(GIVEN),THPSPLIT=$(GIVEN) python3 tests/run.py -p test_rows.py)
 	@$(if $(GIVEN),THPSPLIT=$(GIVEN) python3 tests/run.py -p test_outside.py)

@@ -25,7 +25,7 @@ sys.path.insert(0, str(ROOT))
 
 from prove import keep_verdict, library, listed, products, released, sources, verdict  # noqa: E402
 
-WITHOUT = ("tests/docs.py", "tests/test_surface.py", "tests/test_installed.py", "tests/test_release.py", "tests/test_lint.py")
+WITHOUT = tuple(f"tests/test_{name}.py" for name in ("docs", "surface", "installed", "release", "lint"))
 """The tests of the tree only."""
 
 KERNEL_TOOLS = ("tests/run.py", "linux/tests")

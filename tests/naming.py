@@ -1,4 +1,4 @@
-"""What tests/docs.py checks of names: each definition of `crates/thp*/specs` has one of its own, and sources use one word for reports."""
+"""What tests/test_docs.py checks of names: each definition of `crates/thp*/specs` has its own, and sources use one word for reports."""
 
 from __future__ import annotations
 

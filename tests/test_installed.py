@@ -105,18 +105,6 @@ def page_is_sound(page: str) -> str | None:
     return done.stderr.strip() or None
 
 
-def options_are_reported(name: str, path: str) -> str | None:
-    """A file contains each option of a program, and no other; for a manual page, its section of options. In fish's form an option is
-    `-l NAME`."""
-    source = (ROOT / "crates" / PROGRAMS[name]).read_text()
-    wanted = set(re.findall(r'(?:\.long\(|(?:flag|valued|number)\(\s*alloc,\s*)"([a-z]+)"', source)) | {"help", "version"}
-    text = (ROOT / path).read_text().replace("\\-", "-").split(".SH OPTIONS")[-1].split(".SH ")[0]
-    reported = set(re.findall(r"--([a-z]+)", text)) | set(re.findall(r" -l ([a-z]+)", text))
-    if reported == wanted:
-        return None
-    return f"lacks {sorted(wanted - reported)}, and has {sorted(reported - wanted)}"
-
-
 OPTION = re.compile(r"--([a-z][a-z-]*)")
 
 
@@ -126,15 +114,19 @@ def options_of_tool(tool: str, *command: str) -> set[str]:
     return {name for line in lines if line.startswith("  -") for name in OPTION.findall(re.split(r"\s{2,}", line.strip())[0])}
 
 
-def all_options(tool: str) -> set[str]:
-    """The options of a tool and of all its commands."""
-    commands = [(name,) for name in COMMANDS] if tool == "thpwhatif" else []
-    return options_of_tool(tool).union(*(options_of_tool(tool, *command) for command in commands))
+def all_options(name: str) -> set[str]:
+    """The options of a program, of which the sources are read, or of a tool and of all its commands."""
+    if name in PROGRAMS:
+        source = (ROOT / "crates" / PROGRAMS[name]).read_text()
+        return set(re.findall(r'(?:\.long\(|(?:flag|valued|number)\(\s*alloc,\s*)"([a-z]+)"', source)) | {"help", "version"}
+    commands = [(command,) for command in COMMANDS] if name == "thpwhatif" else []
+    return options_of_tool(name).union(*(options_of_tool(name, *command) for command in commands))
 
 
-def tool_options_are_listed(tool: str, path: str) -> str | None:
-    """A file contains each option of a tool for the running kernel, and no other; for a manual page, its sections of options."""
-    text, wanted = (ROOT / path).read_text().replace("\\-", "-"), all_options(tool)
+def options_differ(name: str, path: str) -> str | None:
+    """A file contains each option of a program or tool, and no other; a manual page in its sections of options. In fish's form an option
+    is `-l NAME`."""
+    text, wanted = (ROOT / path).read_text().replace("\\-", "-"), all_options(name)
     if path.endswith(".1"):
         text = "".join(part for part in text.split("\n.SH ")[1:] if "OPTIONS" in part.partition("\n")[0])
     found = set(OPTION.findall(text)) | set(re.findall(r"^complete .* -l ([a-z-]+)", text, re.M))
@@ -225,10 +217,6 @@ class Pages(TestCase):
 class Options(TestCase):
     """Manual pages and completions have exactly the options of a program or tool."""
 
-    def check(self, row: tuple[str, str]) -> str | None:
-        """Returns what is wrong with the options of a program or tool in a file, or None."""
-        return options_are_reported(*row) if row[0] in PROGRAMS else tool_options_are_listed(*row)
-
 
 class Completions(TestCase):
     """Bash offers the options of a tool; each shell reads its completions."""
@@ -246,7 +234,7 @@ CALLS = [*((tool,) for tool in TOOLS), *(("thpwhatif", command) for command in C
 
 add_tests(Pages, lambda _, page: page_is_sound(page),
           ((f"no warning in {page}", page) for page in (*(f"docs/{name}.1" for name in COMPLETIONS), FORMATS_PAGE, "docs/libthp.3")))
-add_tests(Options, Options.check, ((f"options in {path}", (name, path)) for name, path in FILES))
+add_tests(Options, lambda _, row: options_differ(*row), ((f"options in {path}", (name, path)) for name, path in FILES))
 add_tests(Completions, lambda _, words: bash_completes(*words), ((f"bash completes {' '.join(words)}", words) for words in CALLS))
 add_tests(Completions, lambda _, pair: reads_as(*pair),
           ((f"syntax of {pair[1]}", pair) for files in COMPLETIONS.values() for pair in files.items()))

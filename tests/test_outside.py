@@ -14,16 +14,12 @@ from texts import FAULT_WORDS, LARGE_VERSION, Fault, journal_fault, script_fault
 class Texts(TestCase):
     """tests/texts.py reads the stored faulty texts."""
 
-    def test_scripts(self) -> None:
+    def test_errors_are_as_stored(self) -> None:
         for text, line, word in faulty_texts.SCRIPTS:
-            with self.subTest(text=text):
-                self.assertEqual(script_fault(text), Fault(line, word))
-
-    def test_journals(self) -> None:
+            self.assertEqual(script_fault(text), Fault(line, word), text)
         for newest, others in ((LARGE_VERSION - 1, faulty_texts.SMALL_JOURNALS), (LARGE_VERSION, faulty_texts.LARGE_JOURNALS)):
             for text, line, word in faulty_texts.JOURNALS + others:
-                with self.subTest(text=text, newest=newest):
-                    self.assertEqual(journal_fault(text, newest), Fault(line, word))
+                self.assertEqual(journal_fault(text, newest), Fault(line, word), text)
 
     def test_each_kind_of_error_is_in_a_text(self) -> None:
         found = {word for _, _, word in [*faulty_texts.SCRIPTS, *faulty_texts.JOURNALS]} | {"too-long"}

@@ -295,104 +295,47 @@ class Totals:
 
 
 WHOLE = (
-    Totals(
-        "first_run",
-        "setup / alloc 0 / splitpmd 0 0 / unmap 0 0 0 256 / scan 0 8",
-        (1, 0, 256, 256, 1, 0, 1, 1),
-    ),
-    Totals(
-        "empty_input",
-        "",
-        (0, 0, 0, 0, 0, 0, 0, 0),
-    ),
-    Totals(
-        "empty_input",
-        "# nothing /  / setup",
-        (0, 0, 0, 0, 0, 0, 0, 0),
-    ),
-    Totals(
-        "two_of_three_oldest",
-        "setup / alloc 0 / splitpmd 0 0 / unmap 0 0 0 1 / alloc 0 / splitpmd 0 1 / unmap 0 1 0 1 / "
-        "alloc 0 / splitpmd 0 2 / unmap 0 2 0 1 / scan 0 2",
-        (3, 1, 1534, 2, 2, 0, 3, 3),
-    ),
-    Totals(
-        "freed_from_the_middle",
-        "setup / alloc 0 / splitpmd 0 0 / unmap 0 0 0 1 / alloc 0 / splitpmd 0 1 / unmap 0 1 0 1 / "
-        "alloc 0 / splitpmd 0 2 / unmap 0 2 0 1 / unmap 0 1 1 511 / scan 0 3",
-        (3, 0, 1022, 514, 2, 0, 3, 3),
-    ),
-    Totals(
-        "freed_while_queued",
-        "setup / alloc 0 / splitpmd 0 0 / unmap 0 0 0 1 / unmap 0 0 1 511 / alloc 0 / splitpmd 0 1 / "
-        "unmap 0 1 0 1 / scan 0 8",
-        (2, 0, 511, 513, 1, 0, 2, 2),
-    ),
-    Totals(
-        "no_free_block",
-        "setup / alloc 0 / alloc 0 / splitpmd 0 0 / unmap 0 0 1 511 / scan 0 1 / alloc 0 / unmap 0 0 0 1 / "
-        "alloc 0",
-        (2, 0, 512, 512, 1, 0, 1, 1),
-        "--blocks 1",
-    ),
-    Totals(
-        "pinned_goes_to_the_tail",
-        "setup / alloc 0 / splitpmd 0 0 / unmap 0 0 0 1 / alloc 0 / splitpmd 0 1 / unmap 0 1 0 1 / "
-        "alloc 0 / splitpmd 0 2 / unmap 0 2 0 1 / pin 0 1 / scan 0 3",
-        (3, 1, 1534, 2, 2, 1, 3, 3),
-    ),
-    Totals(
-        "pinned_goes_to_the_tail",
-        "setup / alloc 0 / splitpmd 0 0 / unmap 0 0 0 1 / alloc 0 / splitpmd 0 1 / unmap 0 1 0 1 / "
-        "alloc 0 / splitpmd 0 2 / unmap 0 2 0 1 / pin 0 1 / scan 0 3 / unpin 0 1 / scan 0 3",
-        (3, 0, 1533, 3, 3, 1, 3, 3),
-    ),
-    Totals(
-        "all_pinned_rotate",
-        "setup / alloc 0 / splitpmd 0 0 / unmap 0 0 0 1 / alloc 0 / splitpmd 0 1 / unmap 0 1 0 1 / "
-        "alloc 0 / splitpmd 0 2 / unmap 0 2 0 1 / pin 0 0 / pin 0 1 / pin 0 2 / scan 0 2 / scan 0 3",
-        (3, 3, 1536, 0, 0, 5, 3, 3),
-    ),
-    Totals(
-        "split_of_a_mapped_page",
-        "setup / alloc 0 / splitpmd 0 0 / unmap 0 0 0 1 / mapwhole 0 0 / scan 0 1",
-        (1, 0, 512, 0, 1, 0, 1, 2),
-    ),
-    Totals(
-        "pinned_page_is_freed_by_unpin",
-        "setup / alloc 0 / pin 0 0 / unmapwhole 0 0",
-        (1, 0, 512, 0, 0, 0, 0, 0),
-    ),
-    Totals(
-        "pinned_page_is_freed_by_unpin",
-        "setup / alloc 0 / pin 0 0 / unmapwhole 0 0 / unpin 0 0 / pin 0 0",
-        (1, 0, 0, 512, 0, 0, 0, 0),
-    ),
-    Totals(
-        "bad_ranges",
-        "setup / alloc 0 / splitpmd 0 0 / unmap 0 0 511 1 / map 0 0 511 2 / unmap 0 0 0 0 / "
-        "unmap 0 0 512 1 / unmap 0 0 511 1 / map 0 0 511 1 / unmap 0 1 0 0 / scan 0 1",
-        (1, 0, 512, 0, 1, 0, 1, 1),
-    ),
-    Totals(
-        "refusals_after_a_split",
-        "setup / alloc 0 / splitpmd 0 0 / unmap 0 0 1 511 / scan 0 1 / map 0 0 1 1 / unmap 0 0 1 1 / "
-        "map 0 0 0 1 / mapwhole 0 0 / unmapwhole 0 0 / splitpmd 0 0 / pin 0 0 / unpin 0 0 / "
-        "unmap 0 0 0 1 / unmap 0 0 0 1 / unmap 0 0 0 1",
-        (1, 0, 0, 512, 1, 0, 1, 1),
-    ),
-    Totals(
-        "refusals_before_a_split",
-        "setup / alloc 0 / unmap 0 0 0 1 / unpin 0 0 / splitpmd 0 0 / splitpmd 0 0 / unmapwhole 0 0 / "
-        "unmap 0 0 0 1 / unmap 0 0 3 1 / scan 0 1 / unmap 0 0 5 2",
-        (1, 0, 508, 4, 1, 0, 1, 1),
-    ),
-    Totals(
-        "closed_node",
-        "setup / alloc 0 / splitpmd 0 0 / unmap 0 0 0 1 / alloc 0 / splitpmd 0 1 / pin 0 0 / close 0 / "
-        "alloc 0 / close 0 / unmap 0 1 0 1 / scan 0 8",
-        (2, 0, 1024, 0, 0, 1, 1, 2),
-    ),
+    Totals("first_run", "setup / alloc 0 / splitpmd 0 0 / unmap 0 0 0 256 / scan 0 8", (1, 0, 256, 256, 1, 0, 1, 1)),
+    Totals("empty_input", "", (0, 0, 0, 0, 0, 0, 0, 0)),
+    Totals("empty_input", "# nothing /  / setup", (0, 0, 0, 0, 0, 0, 0, 0)),
+    Totals("two_of_three_oldest",
+           "setup / alloc 0 / splitpmd 0 0 / unmap 0 0 0 1 / alloc 0 / splitpmd 0 1 / unmap 0 1 0 1 / alloc 0 / splitpmd 0 2 / "
+           "unmap 0 2 0 1 / scan 0 2", (3, 1, 1534, 2, 2, 0, 3, 3)),
+    Totals("freed_from_the_middle",
+           "setup / alloc 0 / splitpmd 0 0 / unmap 0 0 0 1 / alloc 0 / splitpmd 0 1 / unmap 0 1 0 1 / alloc 0 / splitpmd 0 2 / "
+           "unmap 0 2 0 1 / unmap 0 1 1 511 / scan 0 3", (3, 0, 1022, 514, 2, 0, 3, 3)),
+    Totals("freed_while_queued",
+           "setup / alloc 0 / splitpmd 0 0 / unmap 0 0 0 1 / unmap 0 0 1 511 / alloc 0 / splitpmd 0 1 / unmap 0 1 0 1 / scan 0 8",
+           (2, 0, 511, 513, 1, 0, 2, 2)),
+    Totals("no_free_block",
+           "setup / alloc 0 / alloc 0 / splitpmd 0 0 / unmap 0 0 1 511 / scan 0 1 / alloc 0 / unmap 0 0 0 1 / alloc 0",
+           (2, 0, 512, 512, 1, 0, 1, 1), "--blocks 1"),
+    Totals("pinned_goes_to_the_tail",
+           "setup / alloc 0 / splitpmd 0 0 / unmap 0 0 0 1 / alloc 0 / splitpmd 0 1 / unmap 0 1 0 1 / alloc 0 / splitpmd 0 2 / "
+           "unmap 0 2 0 1 / pin 0 1 / scan 0 3", (3, 1, 1534, 2, 2, 1, 3, 3)),
+    Totals("pinned_goes_to_the_tail",
+           "setup / alloc 0 / splitpmd 0 0 / unmap 0 0 0 1 / alloc 0 / splitpmd 0 1 / unmap 0 1 0 1 / alloc 0 / splitpmd 0 2 / "
+           "unmap 0 2 0 1 / pin 0 1 / scan 0 3 / unpin 0 1 / scan 0 3", (3, 0, 1533, 3, 3, 1, 3, 3)),
+    Totals("all_pinned_rotate",
+           "setup / alloc 0 / splitpmd 0 0 / unmap 0 0 0 1 / alloc 0 / splitpmd 0 1 / unmap 0 1 0 1 / alloc 0 / splitpmd 0 2 / "
+           "unmap 0 2 0 1 / pin 0 0 / pin 0 1 / pin 0 2 / scan 0 2 / scan 0 3", (3, 3, 1536, 0, 0, 5, 3, 3)),
+    Totals("split_of_a_mapped_page",
+           "setup / alloc 0 / splitpmd 0 0 / unmap 0 0 0 1 / mapwhole 0 0 / scan 0 1", (1, 0, 512, 0, 1, 0, 1, 2)),
+    Totals("pinned_page_is_freed_by_unpin", "setup / alloc 0 / pin 0 0 / unmapwhole 0 0", (1, 0, 512, 0, 0, 0, 0, 0)),
+    Totals("pinned_page_is_freed_by_unpin", "setup / alloc 0 / pin 0 0 / unmapwhole 0 0 / unpin 0 0 / pin 0 0", (1, 0, 0, 512, 0, 0, 0, 0)),
+    Totals("bad_ranges",
+           "setup / alloc 0 / splitpmd 0 0 / unmap 0 0 511 1 / map 0 0 511 2 / unmap 0 0 0 0 / unmap 0 0 512 1 / unmap 0 0 511 1 / "
+           "map 0 0 511 1 / unmap 0 1 0 0 / scan 0 1", (1, 0, 512, 0, 1, 0, 1, 1)),
+    Totals("refusals_after_a_split",
+           "setup / alloc 0 / splitpmd 0 0 / unmap 0 0 1 511 / scan 0 1 / map 0 0 1 1 / unmap 0 0 1 1 / map 0 0 0 1 / mapwhole 0 0 / "
+           "unmapwhole 0 0 / splitpmd 0 0 / pin 0 0 / unpin 0 0 / unmap 0 0 0 1 / unmap 0 0 0 1 / unmap 0 0 0 1",
+           (1, 0, 0, 512, 1, 0, 1, 1)),
+    Totals("refusals_before_a_split",
+           "setup / alloc 0 / unmap 0 0 0 1 / unpin 0 0 / splitpmd 0 0 / splitpmd 0 0 / unmapwhole 0 0 / unmap 0 0 0 1 / unmap 0 0 3 1 / "
+           "scan 0 1 / unmap 0 0 5 2", (1, 0, 508, 4, 1, 0, 1, 1)),
+    Totals("closed_node",
+           "setup / alloc 0 / splitpmd 0 0 / unmap 0 0 0 1 / alloc 0 / splitpmd 0 1 / pin 0 0 / close 0 / alloc 0 / close 0 / "
+           "unmap 0 1 0 1 / scan 0 8", (2, 0, 1024, 0, 0, 1, 1, 2)),
 )
 """Whole reports, word by word."""
 
