@@ -146,11 +146,8 @@ test: toolchain
 GIVEN = $(if $(filter command% environment%,$(origin PROGRAM)),$(PROGRAM))
 
 outside:
-	@for name in docs surface installed release lint; do python3 tests/run.py -p test_$$name.py || test $$? = 77 || failed=1; done; test -z "$$failed"
-	@$(if $(GIVEN),THPSPLIT=$(GIVEN),TRY=1) python3 tests/run.py -p test_examples.py $(if $(GIVEN),,-k Examples) || test $$? = 77
-	@$(if $(GIVEN),THPSPLIT=$(GIVEN) python3 tests/run.py -p test_rows.py)
-	@$(if $(GIVEN),THPSPLIT=$(GIVEN) python3 tests/run.py -p test_outside.py)
-	@$(if $(GIVEN),THPSPLIT=$(GIVEN) python3 tests/run.py -p test_wrong_programs.py)
+	@for name in docs surface installed release lint; do python3 tests/run.py -p test_$$name.py || test $$? = 77 || exit 1; done
+	@$(if $(GIVEN),for name in examples rows outside wrong_programs; do THPSPLIT=$(GIVEN) python3 tests/run.py -p test_$$name.py || exit 1; done,TRY=1 python3 tests/run.py -p test_examples.py -k Examples || test $$? = 77)
 	@$(if $(GIVEN),python3 tests/spoilt.py $(GIVEN))
 	@$(if $(GIVEN),python3 tests/large.py $(GIVEN))
 	@$(if $(GIVEN),python3 tests/workers.py $(GIVEN))

@@ -122,7 +122,7 @@ def wrong_bodies() -> list[list[str]]:
     return list(table_rows(section("docs/TESTING.md", "Wrong bodies")))
 
 
-def tests_in(crate: str) -> int:
+def count_tests(crate: str) -> int:
     """How many tests a crate has."""
     return sum(path.read_text().count("#[test]") for path in (ROOT / "crates" / crate / "src").rglob("*.rt"))
 
@@ -320,7 +320,7 @@ class Testing(DocumentCase):
             r"(\d+) explained journals": len(explanations.EXPLAINED),
             r"(\d+) scripts of workers": 2 * len(workers.SCRIPTS) + 3,
         }
-        counts.update({rf"`{name}` \| (\d+) \|": tests_in(name) for name in known_crates() if tests_in(name)})
+        counts.update({rf"`{name}` \| (\d+) \|": count_tests(name) for name in known_crates() if count_tests(name)})
         wrong = []
         for pattern, count in counts.items():
             found = re.search(pattern, text)
