@@ -27,12 +27,13 @@ NAMED = 3
 
 
 class CountingResult(unittest.TestResult):
-    """Counts test methods."""
+    """Counts test methods, and prints those that fail."""
 
     def __init__(self, is_verbose: bool) -> None:
         super().__init__()
         self.is_verbose = is_verbose
         self.passed = 0
+        self.wrong: set[str] = set()
 
     def startTest(self, test: unittest.TestCase) -> None:
         """Prints the test if asked."""
@@ -45,14 +46,23 @@ class CountingResult(unittest.TestResult):
         super().addSuccess(test)
         self.passed += 1
 
-    def failed(self) -> int:
-        """Prints what failed, and returns the number of test methods."""
-        wrong = [*self.errors, *self.failures, *((test, "it passed\n") for test in self.unexpectedSuccesses)]
-        for test, text in wrong:
+    def addUnexpectedSuccess(self, test: unittest.TestCase) -> None:
+        """Counts a test that should fail as failed."""
+        self.failures.append((test, "it passed"))
+
+    def stopTest(self, test: unittest.TestCase) -> None:
+        """Prints what failed in the test."""
+        super().stopTest(test)
+        self.show()
+
+    def show(self) -> None:
+        """Prints what failed and is not printed yet: in one line, and with where it did."""
+        for test, text in self.errors + self.failures:
             lines = text.rpartition("Traceback")[2].splitlines()[1:]
-            what = next((line for line in lines if not line.startswith(" ")), text.strip())
-            print(f"FAIL: {test.id()}: {what}\n{text}", end="", flush=True)
-        return len({getattr(test, "test_case", test).id() for test, _ in wrong})
+            what = next((line for line in lines if not line.startswith(" ")), text)
+            print(f"FAIL: {test.id()}: {what}\n{text.rstrip()}", flush=True)
+            self.wrong.add(getattr(test, "test_case", test).id())
+        self.errors, self.failures = [], []
 
     def skip(self) -> int:
         """Prints what was skipped and why, and returns the number that counts as failed."""
@@ -80,7 +90,8 @@ def main() -> NoReturn:
         sys.exit(f"{asked.folder} has no such test")
     result = CountingResult(asked.is_verbose)
     tests.run(result)
-    failed = result.failed() + result.skip()
+    result.show()  # what failed outside tests
+    failed = len(result.wrong) + result.skip()
     print(f"{result.passed} passed, {failed} failed", flush=True)
     sys.exit(1 if failed else 0 if result.passed else SKIPPED)
 

@@ -208,33 +208,28 @@ class Installation(TestCase):
 
 
 class Pages(TestCase):
-    """Manual pages give no warning, and one has the tables of docs/FORMATS.md."""
+    """Manual pages give no warning, and have exactly the options of a program or tool; one has the tables of docs/FORMATS.md."""
 
     def test_tables_of_formats(self) -> None:
         self.assertIsNone(lacks_tables_of_formats())
 
 
-class Options(TestCase):
-    """Manual pages and completions have exactly the options of a program or tool."""
-
-
 class Completions(TestCase):
-    """Bash offers the options of a tool; each shell reads its completions."""
+    """Each shell reads its completions, which have exactly the options of a program or tool; Bash offers those of a tool."""
 
 
 COMPLETIONS = {name: {"bash": f"completions/{name}.bash", "zsh": f"completions/_{name}", "fish": f"completions/{name}.fish"}
                for name in (*PROGRAMS, *TOOLS)}
 """The completions of each program and tool, by shell."""
 
-FILES = [(name, path) for name, files in COMPLETIONS.items() for path in (f"docs/{name}.1", *files.values())]
-"""Each program and tool with the files that have its options."""
-
 CALLS = [*((tool,) for tool in TOOLS), *(("thpwhatif", command) for command in COMMANDS)]
 """What Bash completes by running a tool."""
 
 add_tests(Pages, lambda _, page: page_is_sound(page),
           ((f"no warning in {page}", page) for page in (*(f"docs/{name}.1" for name in COMPLETIONS), FORMATS_PAGE, "docs/libthp.3")))
-add_tests(Options, lambda _, row: options_differ(*row), ((f"options in {path}", (name, path)) for name, path in FILES))
+add_tests(Pages, lambda _, name: options_differ(name, f"docs/{name}.1"), ((f"options in docs/{name}.1", name) for name in COMPLETIONS))
+add_tests(Completions, lambda _, row: options_differ(*row),
+          ((f"options in {path}", (name, path)) for name, files in COMPLETIONS.items() for path in files.values()))
 add_tests(Completions, lambda _, words: bash_completes(*words), ((f"bash completes {' '.join(words)}", words) for words in CALLS))
 add_tests(Completions, lambda _, pair: reads_as(*pair),
           ((f"syntax of {pair[1]}", pair) for files in COMPLETIONS.values() for pair in files.items()))

@@ -12,9 +12,6 @@ from fixtures import ROOT, need, temporary_folder
 SECONDS = 300
 """The greatest time that one of them may take."""
 
-FOLDERS = ("tests", "tests/edits", "release", "debian")
-"""The folders with Python beside `linux/`."""
-
 
 class Lint(unittest.TestCase):
     """A program finds nothing in the sources."""
@@ -35,7 +32,8 @@ class Lint(unittest.TestCase):
         self.check_types("linux")
 
     def test_types_of_tests_and_release(self) -> None:
-        self.check_types(*sorted(str(path.relative_to(ROOT)) for folder in FOLDERS for path in ROOT.glob(f"{folder}/*.py")), "prove.py")
+        paths = (path for folder in ("tests", "tests/edits", "release", "debian") for path in ROOT.glob(f"{folder}/*.py"))
+        self.check_types(*sorted(str(path.relative_to(ROOT)) for path in paths), "prove.py")
 
     def test_types_of_pictures(self) -> None:
         self.check_types("docs/pictures/layers.py")
