@@ -23,10 +23,10 @@ UNNAMED = re.compile(r"(?:\\n|[^0-9A-Za-z])+")
 """What the name of a test method can't contain, and escaped line feeds."""
 
 Case = TypeVar("Case", bound=TestCase)
-Row = TypeVar("Row")
+Item = TypeVar("Item")
 
 
-def built(variable: str) -> Path:
+def find_built(variable: str) -> Path:
     """Returns the path in an environment variable, or that of what the tree built. Skips the test if there is neither."""
     given, path = os.environ.get(variable), ROOT / BUILT[variable]
     if given:
@@ -38,7 +38,7 @@ def built(variable: str) -> Path:
     return path
 
 
-def need(tool: str) -> None:
+def require_tool(tool: str) -> None:
     """Skips the test if this machine lacks a tool."""
     if shutil.which(tool) is None:
         raise SkipTest(f"no {tool} here")
@@ -61,12 +61,12 @@ class ProgramCase(TestCase):
     @classmethod
     def setUpClass(cls) -> None:
         """Finds the program, or skips the tests."""
-        path = built(cls.variable)
+        path = find_built(cls.variable)
         cls.program = temporary_folder(cls) / cls.variable.lower()
         cls.program.symlink_to(path)
 
 
-def add_tests(case: type[Case], check: Callable[[Case, Row], Optional[str]], rows: Iterable[tuple[str, Row]]) -> None:
+def add_tests(case: type[Case], check: Callable[[Case, Item], Optional[str]], rows: Iterable[tuple[str, Item]]) -> None:
     """Adds a test method for each name and row, which fails with the text that a check of the row returns, if any. The method is named
     after the row, with `_` for all that is no letter or digit, and with a number from the second row of that name on."""
     for name, row in rows:
@@ -76,7 +76,7 @@ def add_tests(case: type[Case], check: Callable[[Case, Row], Optional[str]], row
             count += 1
             method = f"{first}_{count}"
 
-        def test(self: Case, row: Row = row) -> None:
+        def test(self: Case, row: Item = row) -> None:
             wrong = check(self, row)
             if wrong is not None:
                 self.fail(wrong)

@@ -53,9 +53,9 @@ class CountingResult(unittest.TestResult):
     def stopTest(self, test: unittest.TestCase) -> None:
         """Prints what failed in the test."""
         super().stopTest(test)
-        self.show()
+        self.print_failures()
 
-    def show(self) -> None:
+    def print_failures(self) -> None:
         """Prints what failed and is not printed yet: in one line, and with where it did."""
         for test, text in self.errors + self.failures:
             lines = text.rpartition("Traceback")[2].splitlines()[1:]
@@ -64,7 +64,7 @@ class CountingResult(unittest.TestResult):
             self.wrong.add(getattr(test, "test_case", test).id())
         self.errors, self.failures = [], []
 
-    def skip(self) -> int:
+    def print_skips(self) -> int:
         """Prints what was skipped and why, and returns the number that counts as failed."""
         is_strict, reasons = os.environ.get("STRICT") == "1", dict.fromkeys(reason for _, reason in self.skipped)
         for reason in reasons:
@@ -90,8 +90,8 @@ def main() -> NoReturn:
         sys.exit(f"{asked.folder} has no such test")
     result = CountingResult(asked.is_verbose)
     tests.run(result)
-    result.show()  # what failed outside tests
-    failed = len(result.wrong) + result.skip()
+    result.print_failures()  # what failed outside tests
+    failed = len(result.wrong) + result.print_skips()
     print(f"{result.passed} passed, {failed} failed", flush=True)
     sys.exit(1 if failed else 0 if result.passed else SKIPPED)
 

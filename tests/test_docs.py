@@ -21,7 +21,7 @@ import wrong_programs
 from believe import CLAIMED
 from believe import count as believed
 from contracts import clauses
-from fixtures import ROOT, add_tests, need
+from fixtures import ROOT, add_tests, require_tool
 from test_examples import beside, cases, shown
 from toolchain import other_toolchain
 
@@ -269,7 +269,7 @@ class Proved(DocumentCase):
 
     def test_toolchain_is_named(self) -> None:
         """The installed toolchain is one of those that docs/PROVED.md names."""
-        need("rt")
+        require_tool("rt")
         self.assertIsNone(other_toolchain())
 
 

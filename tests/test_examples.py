@@ -14,7 +14,7 @@ import subprocess
 from pathlib import Path
 from typing import Optional
 
-from fixtures import ROOT, ProgramCase, add_tests, need, temporary_folder
+from fixtures import ROOT, ProgramCase, add_tests, require_tool, temporary_folder
 
 EXAMPLES = ROOT / "examples"
 OTHERS = {name: ROOT / f"crates/{name}/out/{name}" for name in ("thpcheck", "thpdraw")}
@@ -77,7 +77,7 @@ class Examples(ProgramCase):
     def setUpClass(cls) -> None:
         """Finds the program, or tries all cases."""
         if os.environ.get("TRY") == "1":
-            need("rt")
+            require_tool("rt")
             cls.tried = try_cases(temporary_folder(cls))
         else:
             super().setUpClass()

@@ -14,7 +14,7 @@ from pathlib import Path
 from typing import IO
 from unittest import SkipTest, TestCase
 
-from fixtures import ROOT, add_tests, need, temporary_folder
+from fixtures import ROOT, add_tests, require_tool, temporary_folder
 from library import is_unprotected
 
 PROGRAMS = {"thpsplit": "thp_cli/src/options.rt", "thpcheck": "thp_journal_tools/src/program.rt",
@@ -99,7 +99,7 @@ def called(program: Path, *words: str, out: int | IO[str] = subprocess.PIPE) -> 
 
 def page_is_sound(page: str) -> str | None:
     """A manual page gives no warning."""
-    need("groff")
+    require_tool("groff")
     words = ["groff", "-man", "-Tascii", "-ww", "-z", page]
     done = subprocess.run(words, cwd=ROOT, capture_output=True, text=True, check=False)
     return done.stderr.strip() or None
@@ -135,7 +135,7 @@ def options_differ(name: str, path: str) -> str | None:
 
 def bash_completes(tool: str, *command: str) -> str | None:
     """Bash offers exactly the options of a tool, or of one of its commands."""
-    need("bash")
+    require_tool("bash")
     words = " ".join([tool, *command, "--"])
     code = f"source {ROOT}/completions/{tool}.bash; COMP_WORDS=({words}); COMP_CWORD={len(command) + 1}; _{tool}"
     done = subprocess.run(["bash", "-c", f'{code}; echo "${{COMPREPLY[@]}}"'], cwd="/", capture_output=True, text=True, check=False)
@@ -164,7 +164,7 @@ def lacks_tables_of_formats() -> str | None:
 
 def reads_as(shell: str, path: str) -> str | None:
     """A shell reads its completions."""
-    need(shell)
+    require_tool(shell)
     done = subprocess.run([shell, "-n", path], cwd=ROOT, capture_output=True, text=True, check=False)
     return None if done.returncode == 0 and not done.stderr else done.stderr.strip() or f"status {done.returncode}"
 
@@ -194,7 +194,7 @@ class Installation(TestCase):
 
     def test_units_of_systemd(self) -> None:
         """systemd finds no error in the units, and the service's command line is one of `thpwhatif`."""
-        need("systemd-analyze")
+        require_tool("systemd-analyze")
         words = []
         for name in UNITS:
             text = (ROOT / "linux/whatif" / name).read_text()

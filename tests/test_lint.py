@@ -7,7 +7,7 @@ import os
 import subprocess
 import unittest
 
-from fixtures import ROOT, need, temporary_folder
+from fixtures import ROOT, require_tool, temporary_folder
 
 SECONDS = 300
 """The greatest time that one of them may take."""
@@ -18,7 +18,7 @@ class Lint(unittest.TestCase):
 
     def check(self, *words: str) -> None:
         """Runs one of the programs."""
-        need(words[0])
+        require_tool(words[0])
         done = subprocess.run(words, cwd=ROOT, capture_output=True, text=True, errors="replace", timeout=SECONDS, check=False,
                               env={**os.environ, "MYPYPATH": "tests:release:debian"})
         lines = [line for line in (done.stdout + done.stderr).split("\n") if ": note: " not in line]

@@ -18,7 +18,7 @@ from functools import cached_property, partial
 from pathlib import Path
 from unittest import SkipTest, TestCase
 
-from fixtures import ROOT, need, temporary_folder
+from fixtures import ROOT, require_tool, temporary_folder
 from gate import Verdicts
 from test_installed import HELPERS, OVER_LIBTHP
 
@@ -55,7 +55,7 @@ class Release:
 
     def __init__(self, folder: Path) -> None:
         for tool in NEEDED:
-            need(tool)
+            require_tool(tool)
         if not (ROOT / ".git").exists():
             raise SkipTest("no checkout of git")
         self.folder, self.tree = folder, folder / "tree"

@@ -1,4 +1,4 @@
-"""Wrong programs in place of thpsplit: a row of tests/outside.py refuses each, and none a program that is only wrapped."""
+"""Wrong programs instead of thpsplit: a row of tests/outside.py refuses each, and none a program that is only wrapped."""
 
 from __future__ import annotations
 
