@@ -68,7 +68,7 @@ class CountingResult(unittest.TestResult):
         """Prints what was skipped and why, and returns the number that counts as failed."""
         is_strict, reasons = os.environ.get("STRICT") == "1", dict.fromkeys(reason for _, reason in self.skipped)
         for reason in reasons:
-            names = [test.id() for test, why in self.skipped if why == reason]
+            names = [test.id().replace("setUpClass ", "all of ") for test, why in self.skipped if why == reason]
             named = ", ".join(names) if len(names) <= NAMED else f"{names[0]} and {len(names) - 1} others"
             print(f"FAIL: {named}: {reason} (STRICT=1)" if is_strict else f"skipped: {named}: {reason}", flush=True)
         return len(self.skipped) if is_strict else 0

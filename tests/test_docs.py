@@ -150,7 +150,9 @@ class DocumentCase(TestCase):
 
     def check_none(self, wrong: Iterable[str]) -> None:
         """Fails with the names that are wrong, if any."""
-        self.assertEqual(sorted(set(wrong)), [])
+        found = sorted(set(wrong))
+        if found:
+            self.fail(", ".join(found))
 
 
 class Sizes(TestCase):

@@ -111,4 +111,5 @@ class Surface(unittest.TestCase):
         if os.environ.get("STORE") == "1":
             STORED.write_text(surface())
         now, stored = set(surface().splitlines()), set(STORED.read_text().splitlines())
-        self.assertEqual({"new": sorted(now - stored), "gone": sorted(stored - now)}, {"new": [], "gone": []})
+        if now != stored:
+            self.fail(f"new: {sorted(now - stored)}; gone: {sorted(stored - now)}")
