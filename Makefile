@@ -57,7 +57,7 @@ deps:
 
 # reports if the installed toolchain is not the one that everything was proved with
 toolchain:
-	@python3 tests/docs.py toolchain
+	@python3 tests/toolchain.py
 
 try: toolchain
 	@cd crates/thpsplit && rt try < ../../$(SCRIPT)
@@ -146,16 +146,9 @@ test: toolchain
 GIVEN = $(if $(filter command% environment%,$(origin PROGRAM)),$(PROGRAM))
 
 outside:
-	@python3 tests/docs.py
-	@python3 tests/surface.py
-	@python3 tests/installed.py
-	@python3 tests/release.py
-	@python3 tests/lint.py || test $$? = 77
-	@python3 tests/examples.py $(GIVEN)
-	@$(if $(GIVEN),python3 tests/rows.py $(GIVEN))
+	@for name in docs surface installed release lint; do python3 tests/run.py -p test_$$name.py || test $$? = 77 || exit 1; done
+	@$(if $(GIVEN),for name in examples rows outside wrong_programs; do THPSPLIT=$(GIVEN) python3 tests/run.py -p test_$$name.py || exit 1; done,TRY=1 python3 tests/run.py -p test_examples.py -k Examples || test $$? = 77)
 	@$(if $(GIVEN),python3 tests/spoilt.py $(GIVEN))
-	@$(if $(GIVEN),python3 tests/outside.py $(GIVEN))
-	@$(if $(GIVEN),python3 tests/outside.py --self-test $(GIVEN))
 	@$(if $(GIVEN),python3 tests/large.py $(GIVEN))
 	@$(if $(GIVEN),python3 tests/workers.py $(GIVEN))
 	@$(if $(GIVEN),python3 tests/streams.py $(GIVEN) || test $$? = 77)
@@ -195,13 +188,13 @@ linux:
 	@python3 -m linux.replay --program $(PROGRAM) --random $(CASES) --seed $(SEED) --quiet
 
 linux-vm:
-	@python3 linux/tests/run.py -p vm_trials.py
+	@python3 tests/run.py linux/tests -p vm_trials.py
 
 linux-programs:
-	@python3 linux/tests/run.py -p program_trials.py
+	@python3 tests/run.py linux/tests -p program_trials.py
 
 root-tests:
-	@for script in $(notdir $(wildcard linux/tests/root_*.py)); do echo "== $$script"; python3 linux/tests/run.py -p $$script || test $$? = 77 || failed=1; done; test -z "$$failed"
+	@for script in $(notdir $(wildcard linux/tests/root_*.py)); do echo "== $$script"; python3 tests/run.py linux/tests -v -p $$script || test $$? = 77 || failed=1; done; test -z "$$failed"
 
 bench:
 	@bash bench/run

@@ -32,7 +32,7 @@ LIBRARIES = "/usr/aarch64-linux-gnu"
 
 PROGRAMS = ("thpsplit", "thpcheck", "thpdraw")
 
-SCRIPTS = {"thpsplit": ("rows.py", "outside.py", "workers.py"), "thpcheck": ("checker.py",), "thpdraw": ("drawer.py",)}
+SCRIPTS = {"thpsplit": ("test_rows.py", "test_outside.py", "workers.py"), "thpcheck": ("checker.py",), "thpdraw": ("drawer.py",)}
 """The tests of each program."""
 
 SECONDS = 3600
@@ -93,12 +93,13 @@ class Emulated:
 
     def script(self, name: str, program: str, *words: str) -> str | None:
         """A script of tests passes on a program; what it reports of rows that fail, or None."""
-        command = [sys.executable, str(ROOT / "tests" / name), str(self.folder / program), *words]
-        done = subprocess.run(command, cwd=self.folder, capture_output=True, text=True, errors="replace", timeout=SECONDS, check=False,
-                              env={**os.environ, "EMULATED": "1"})
+        path = str(self.folder / program)
+        given = ["run.py", "-p", name] if name.startswith("test_") else [name, path, *words]
+        done = subprocess.run([sys.executable, *given], cwd=ROOT / "tests", capture_output=True, text=True, errors="replace",
+                              timeout=SECONDS, check=False, env={**os.environ, "EMULATED": "1", program.upper(): path})
         lines = (done.stdout + done.stderr).strip().split("\n")
         print("\n".join(f"  {line}" for line in lines[-3:]), flush=True)
-        failed = [line for line in lines if ": failed: " in line]
+        failed = [line for line in lines if ": failed: " in line or line.startswith("FAIL: ")]
         return None if done.returncode == 0 else f"status {done.returncode}: {' '.join(failed[:3] or lines[-3:])[-600:]}"
 
 

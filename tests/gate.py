@@ -25,12 +25,13 @@ sys.path.insert(0, str(ROOT))
 
 from prove import keep_verdict, library, listed, products, released, sources, verdict  # noqa: E402
 
-WITHOUT = (
-    "tests/docs.py", "tests/surface.py", "tests/installed.py", "tests/release.py", "tests/lint.py", "linux/tests/run.py",
-)
-"""The tests of the tree only, and of the tools for the running kernel with stored data; without those of PREDICTIONS that need libthp."""
+WITHOUT = tuple(f"tests/test_{name}.py" for name in ("docs", "surface", "installed", "release", "lint"))
+"""The tests of the tree only."""
 
-PREDICTIONS = ("linux/tests/run.py", "-p", "test_whatif_*.py")
+KERNEL_TOOLS = ("tests/run.py", "linux/tests")
+"""The tests of the tools for the running kernel with stored data."""
+
+PREDICTIONS = (*KERNEL_TOOLS, "-p", "test_whatif_*.py")
 """The tests of `thpwhatif`, most of which call libthp."""
 
 BUILT = ("crates/thpsplit/out/thpsplit", "crates/thpsplit/out/thpsplit.by-rattle")
@@ -42,11 +43,14 @@ CHECKERS = ("crates/thpcheck/out/thpcheck", "crates/thpcheck/out/thpcheck.by-rat
 DRAWERS = ("crates/thpdraw/out/thpdraw", "crates/thpdraw/out/thpdraw.by-rattle")
 """The same for the program that draws them."""
 
-BY_EACH = ("tests/examples.py", "tests/rows.py", "tests/outside.py", "tests/large.py", "tests/workers.py",
+BY_EACH = ("tests/test_examples.py", "tests/test_rows.py", "tests/test_outside.py", "tests/large.py", "tests/workers.py",
            "tests/streams.py")
 """The tests of a program."""
 
-BY_ONE = ("tests/spoilt.py",)
+EXAMPLES = ("tests/run.py", "-p", "test_examples.py", "-k", "Examples")
+"""Those of them that need no built program."""
+
+BY_ONE = ("tests/spoilt.py", "tests/test_wrong_programs.py")
 """The tests of a program that take longer, for one of them."""
 
 CEILINGS = ("bench/ceilings.py", "--kinds", "churn,counts,clash")
@@ -68,14 +72,16 @@ REPORTS_FAILURE = re.compile(r": failed: |^rt: FAILED|^(?:rt: )?must-fail .*: (?
 """Lines that name a failure, which are repeated at the end: often only the end of a long output is kept."""
 
 
-def run(command: list[str], failures: list[str], see: Callable[[str], None]) -> tuple[int, int, int]:
-    """Runs a command from the top of the repository and prints its output as it comes; returns its count, and its status.
+def run(command: list[str], failures: list[str], variables: dict[str, str], see: Callable[[str], None]) -> tuple[int, int, int]:
+    """Runs a command from the top of the repository, with these variables too, and prints its output as it comes; returns its count, and
+    its status.
 
     A command that prints no count counts as nothing passed. Lines that name a failure are kept, and `see` gets all lines.
     """
     passed, failed = 0, 0
     try:
-        child = subprocess.Popen(command, cwd=ROOT, stdout=subprocess.PIPE, stderr=subprocess.STDOUT, text=True, errors="replace")
+        child = subprocess.Popen(command, cwd=ROOT, env={**os.environ, **variables}, stdout=subprocess.PIPE, stderr=subprocess.STDOUT,
+                                 text=True, errors="replace")
     except OSError as error:
         print(f"{command[0]}: {error.strerror}", flush=True)
         return 0, 0, 127
@@ -138,12 +144,13 @@ class Gate(Tally):
         super().__init__()
         self.failures: list[str] = []
 
-    def add(self, name: str, command: list[str], see: Callable[[str], None] = lambda line: None) -> None:
+    def add(self, name: str, command: list[str], variables: dict[str, str] | None = None,
+            see: Callable[[str], None] = lambda line: None) -> None:
         """Runs a command, adds its count, and prints its processor time. A command that ends wrong and counts no failure counts as one
         failure."""
         lines: list[str] = []
         began = spent()
-        passed, failed, status = run(command, lines, see)
+        passed, failed, status = run(command, lines, variables or {}, see)
         if status not in (0, SKIPPED) and failed == 0:
             lines.append(f"{name}: ended with status {status}")
             failed = 1
@@ -152,6 +159,13 @@ class Gate(Tally):
         self.failed += failed
         if failed:
             self.failures += [f"failed in {name}: {line}" for line in lines or ["no line names it"]]
+
+    def add_file(self, path: str, **programs: str) -> None:
+        """Runs a file of tests: by `unittest`, with programs in variables, if its name begins with `test_`; otherwise with them as its
+        words."""
+        name, given = Path(path).name, list(programs.values())
+        words = ["tests/run.py", "-p", name] if name.startswith("test_") else [path, *given]
+        self.add(" ".join([name, *(Path(it).name for it in given)]), [sys.executable, *words], programs)
 
     def end(self) -> None:
         """Repeats the failures, prints the total processor time and the count, and ends."""
@@ -187,13 +201,12 @@ def made_since(began: float, names: tuple[str, ...]) -> list[str]:
 def test_programs(gate: Gate, programs: list[str], began: float) -> None:
     """Adds the tests of the program, as each compiler built it."""
     for program in programs:
-        for script in BY_EACH:
-            gate.add(f"{Path(script).name} {Path(program).name}", [sys.executable, script, program])
+        for path in BY_EACH:
+            gate.add_file(path, THPSPLIT=program)
     for program in programs[:1]:
-        for script in BY_ONE:
-            gate.add(Path(script).name, [sys.executable, script, program])
+        for path in BY_ONE:
+            gate.add_file(path, THPSPLIT=program)
         gate.add(Path(CEILINGS[0]).name, [sys.executable, *CEILINGS, program])
-        gate.add("outside.py --self-test", [sys.executable, "tests/outside.py", "--self-test", program])
         rows = [f"{path}:{REFUSED}" for path in made_since(began, (SPOILT,))]
         gate.add("memory.py", [sys.executable, "tests/memory.py", program, *rows])
 
@@ -211,13 +224,13 @@ def test_library(gate: Gate, programs: list[str], archives: list[str]) -> None:
 def test_journal_tools(gate: Gate, programs: list[str], checkers: list[str], drawers: list[str]) -> None:
     """Adds the tests of the programs for journals of any length."""
     for program in checkers:
-        gate.add(f"checker.py {Path(program).name}", [sys.executable, "tests/checker.py", program])
-        gate.add(f"streams.py {Path(program).name}", [sys.executable, "tests/streams.py", program])
+        gate.add_file("tests/checker.py", THPCHECK=program)
+        gate.add_file("tests/streams.py", THPCHECK=program)
     for program, player in zip(checkers, programs):
-        gate.add(f"repeats.py {Path(program).name}", [sys.executable, "tests/repeats.py", program, player])
+        gate.add_file("tests/repeats.py", THPCHECK=program, THPSPLIT=player)
     for program in drawers:
-        gate.add(f"drawer.py {Path(program).name}", [sys.executable, "tests/drawer.py", program])
-        gate.add(f"tables.py {Path(program).name}", [sys.executable, "tests/tables.py", program])
+        gate.add_file("tests/drawer.py", THPDRAW=program)
+        gate.add_file("tests/tables.py", THPDRAW=program)
 
 
 def main() -> None:
@@ -230,11 +243,12 @@ def main() -> None:
         for built in unstamped(name):  # of an earlier gate: `rt ci` would put it back over its own
             shutil.rmtree(built.parent)
     verdicts = Verdicts()
-    gate.add("rt ci", ["rt", "ci"], verdicts.see)
+    gate.add("rt ci", ["rt", "ci"], see=verdicts.see)
     verdicts.keep()
     build_tools(gate)
-    for script in WITHOUT:
-        gate.add(script, [sys.executable, script])
+    for path in WITHOUT:
+        gate.add_file(path)
+    gate.add("linux/tests", [sys.executable, *KERNEL_TOOLS], {"STRICT": ""})  # PREDICTIONS runs those that need libthp
     programs = made_since(began, BUILT)
     test_programs(gate, programs, began)
     gate.add("archive.py", [sys.executable, "tests/archive.py", ARCHIVE])
@@ -244,7 +258,7 @@ def main() -> None:
     if programs and checkers and drawers and archives:
         gate.add("package.py", [sys.executable, "tests/package.py", programs[0], checkers[0], drawers[0], archives[0]])
     if not programs:
-        gate.add("examples.py", [sys.executable, "tests/examples.py"])
+        gate.add("examples by rt try", [sys.executable, *EXAMPLES], {"TRY": "1"})
         gate.skip("the program from outside", "rt ci has built none")
     gate.end()
 

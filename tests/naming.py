@@ -1,4 +1,4 @@
-"""What tests/docs.py checks of names: each definition of `crates/thp*/specs` has one of its own, and sources use one word for reports."""
+"""What tests/test_docs.py checks of names: each definition of `crates/thp*/specs` has its own, and sources use one word for reports."""
 
 from __future__ import annotations
 
@@ -8,7 +8,7 @@ from collections import Counter
 from pathlib import Path
 from typing import Iterator
 
-from examples import ROOT
+from fixtures import ROOT
 
 SHARED: dict[str, str] = {}
 """Names that two definitions may share, each with its reason. At most `MOST_SHARED`."""

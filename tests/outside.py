@@ -1,31 +1,21 @@
-"""The built program from outside: each exit status, with the exact bytes of each stream.
-
-    tests/outside.py PROGRAM
-    tests/outside.py --self-test PROGRAM
-
-With `--self-test`, wrong programs (tests/wrong_programs.py) replace PROGRAM: each counts as passed if a row refuses it. Passed
-rows are counted, and reported in a line for each group.
+"""Calls of thpsplit, each with the exit status and the exact bytes of each stream. tests/test_outside.py makes them, and
+tests/test_wrong_programs.py makes them of wrong programs.
 """
 
 from __future__ import annotations
 
-import os
-import sys
-import tempfile
 from dataclasses import dataclass
-from functools import partial
+from functools import lru_cache
 from pathlib import Path
 from typing import Callable, Iterator, Optional
 
 import faulty_texts
 import usage
-import wrong_programs
 from process import Call, Ended, ReadTooEarly, Sink, Source, Word, run
-from tally import Tally
-from texts import FAULT_WORDS, LARGE_VERSION, MOST_BYTES, Fault, journal_fault, script_fault
+from texts import MOST_BYTES
 
 ROOT = Path(__file__).resolve().parent.parent
-STORED = Path(__file__).resolve().parent / "stored"
+STORED = ROOT / "tests/stored"
 FIRST = (ROOT / "examples/first.script").read_bytes()
 FIRST_TOTALS = (ROOT / "examples/first.script.stdout").read_bytes()
 ILLEGAL = (ROOT / "examples/illegal.journal").read_bytes()
@@ -308,83 +298,7 @@ PARTS: tuple[Callable[[], Iterator[Row]], ...] = (
 )
 
 
-def rows() -> list[Row]:
+@lru_cache(maxsize=None)
+def rows() -> tuple[Row, ...]:
     """All rows."""
-    return [row for part in PARTS for row in part()]
-
-
-def own_texts_agree() -> Optional[str]:
-    """The stored errors of faulty texts are those of tests/texts.py, and each kind of error is among them."""
-    for text, line, word in faulty_texts.SCRIPTS:
-        if script_fault(text) != Fault(line, word):
-            return f"{text!r}: {script_fault(text)}"
-    for newest, others in ((LARGE_VERSION - 1, faulty_texts.SMALL_JOURNALS), (LARGE_VERSION, faulty_texts.LARGE_JOURNALS)):
-        for text, line, word in faulty_texts.JOURNALS + others:
-            if journal_fault(text, newest) != Fault(line, word):
-                return f"{text!r}: {journal_fault(text, newest)}"
-    met = {word for _, _, word in [*faulty_texts.SCRIPTS, *faulty_texts.JOURNALS]} | {"too-long"}
-    lacks = sorted(set(FAULT_WORDS) - met)
-    return f"no text has {', '.join(lacks)}" if lacks else None
-
-
-def named(program: Path, folder: Path) -> Path:
-    """The program with a name other than its own: messages about words contain the name that was called."""
-    path = folder / "real" / "thpsplit"
-    path.parent.mkdir()
-    path.symlink_to(program.resolve())
-    return path
-
-
-def test(tally: Tally, program: Path) -> None:
-    """Makes each call of each row."""
-    tally.run("tests/texts.py reads the stored texts", own_texts_agree)
-    all_rows = rows()
-    for group in dict.fromkeys(row.group for row in all_rows):
-        passed, own = tally.passed, [row for row in all_rows if row.group == group]
-        for row in own:
-            tally.run(f"{group}: {row.name}", partial(row.wrong, program))
-        print(f"{group}: {tally.passed - passed} of {len(own)} calls", flush=True)
-
-
-def self_test(tally: Tally, program: Path, folder: Path) -> None:
-    """Each wrong program is refused by a row, and a program that is only wrapped by none."""
-    for wrong in wrong_programs.all_of(program):
-        path = wrong.write(folder)
-        tally.run(f"refused: {wrong.name}", partial(passes, path, wrong.group))
-    path = wrong_programs.wrapped(program).write(folder)
-    tally.run("a wrapped program isn't refused", lambda: first_wrong(path))
-
-
-def first_wrong(program: Path, group: Optional[str] = None) -> Optional[str]:
-    """The first row of a group, or of all but those on memory, that refuses a program; or None."""
-    for row in rows():
-        if row.group == group or (group is None and row.group != "memory"):
-            wrong = row.wrong(program)
-            if wrong is not None:
-                return f"{row.group}: {row.name}: {wrong}"
-    return None
-
-
-def passes(program: Path, group: str) -> Optional[str]:
-    """That no row of a group refuses a program; or None, where one does."""
-    return None if first_wrong(program, group) else f"no row of '{group}' refuses it"
-
-
-def main() -> None:
-    """Tests the program of the command line, or the rows by wrong programs."""
-    program = Path(sys.argv[-1])
-    if len(sys.argv) < 2 or not os.access(program, os.X_OK) or program.is_dir():
-        sys.exit(f"{program} is no program\n\n{__doc__}")
-    tally = Tally(is_brief=sys.argv[1] != "--self-test")
-    with tempfile.TemporaryDirectory() as name:
-        folder = Path(name)
-        path = named(program, folder)
-        if sys.argv[1] == "--self-test":
-            self_test(tally, path, folder)
-        else:
-            test(tally, path)
-        tally.end()
-
-
-if __name__ == "__main__":
-    main()
+    return tuple(row for part in PARTS for row in part())

@@ -24,12 +24,12 @@ ROOT = Path(__file__).resolve().parent.parent
 sys.path[:0] = [str(ROOT / "debian"), str(ROOT / "release")]
 
 from build import PARTS  # noqa: E402
-from installed import HELPERS, OVER_LIBTHP  # noqa: E402
 from library import elf_differs, header, soname, version  # noqa: E402
 from process import Call, Ended, run  # noqa: E402
 from protection import is_elf, is_stripped, weaknesses  # noqa: E402
 from tables import table  # noqa: E402
 from tally import SKIPPED, Missing, Tally  # noqa: E402
+from test_installed import HELPERS, OVER_LIBTHP  # noqa: E402
 
 FIRST, LEGAL = ROOT / "examples/first.script", ROOT / "examples/two_workers.journal"
 ADMIN = "var/lib/dpkg"

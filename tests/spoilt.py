@@ -18,9 +18,9 @@ from typing import Callable, Iterable, Iterator, Optional
 
 from faulty_texts import ILLEGAL
 from process import SECONDS, Ended
-from rows import ROWS, Row, lines
 from script import Run, Shape, first_illegal
 from tally import Tally
+from test_rows import ROWS, Row, lines
 from texts import Fault, journal_fault, script_fault
 
 VALUES = (0, 0xFF, ord("\n"), ord(" "))

@@ -5,13 +5,14 @@ from __future__ import annotations
 import os
 import sys
 from collections.abc import Callable
+from unittest import SkipTest
 
 SKIPPED = 77
 """The exit status of a script that can't test anything on this machine."""
 
 
-class Missing(Exception):
-    """This machine lacks what a test needs; the text names it."""
+class Missing(SkipTest):
+    """This machine lacks what a test needs; the text names it. A test of `unittest` is skipped."""
 
 
 class Tally:

@@ -1,4 +1,4 @@
-"""Wrong programs: each runs the real one, and changes its output. tests/outside.py must refuse each."""
+"""Wrong programs: each runs the real one, and changes its output. A row of tests/outside.py must refuse each."""
 
 from __future__ import annotations
 
@@ -136,13 +136,3 @@ WRONG = [
     ("16 MiB are too many bytes", "limits", f"if os.lseek(9, 0, 1) == 2**24: status, output, errors = {TOO_LONG}"),
 ]
 """Each has a name, the group of rows that must refuse it, and what it changes: `status`, `output` or `errors`."""
-
-
-def all_of(real: Path) -> list[WrongProgram]:
-    """All wrong programs over the real one."""
-    return [WrongProgram(name, group, change, real) for name, group, change in WRONG]
-
-
-def wrapped(real: Path) -> WrongProgram:
-    """The real program, wrapped and unchanged."""
-    return WrongProgram("wrapped", "", "", real)

@@ -1,1 +1,1 @@
-"""Tests of linux/ that need neither root nor the built program: `python3 linux/tests/run.py`."""
+"""Tests of linux/ that need neither root nor the built program: `python3 tests/run.py linux/tests`."""

@@ -1,4 +1,4 @@
-"""What tests share, those of root among them, and the count that ends each run of tests: `N passed, M failed`."""
+"""What tests share, those of root among them."""
 
 from __future__ import annotations
 
@@ -7,7 +7,6 @@ import os
 import re
 import signal
 import subprocess
-import sys
 import tempfile
 import time
 import unittest
@@ -16,7 +15,6 @@ from pathlib import Path
 from types import FrameType
 from typing import Any, NoReturn
 
-from ..common.errors import SKIPPED
 from ..common.files import THP, read
 from ..common.guardian import hierarchies
 from ..common.keeper import Keeper
@@ -173,25 +171,3 @@ class StateCase(RootCase):
 
     def tearDown(self) -> None:
         self.assertEqual(machine_state(), self.before)
-
-
-class CountingResult(unittest.TextTestResult):
-    """Also counts the tests that passed."""
-
-    passed = 0
-
-    def addSuccess(self, test: unittest.TestCase) -> None:
-        super().addSuccess(test)
-        self.passed += 1
-
-
-def main(*words: str) -> NoReturn:
-    """Runs the tests that unittest finds by these words; the status is 77 where none could run."""
-    runner = unittest.TextTestRunner(resultclass=CountingResult, verbosity=2 if any("root_" in word for word in words) else 1)
-    result = unittest.main(None, argv=[sys.argv[0], *words], testRunner=runner, exit=False).result
-    assert isinstance(result, CountingResult)
-    failed = len(result.failures) + len(result.errors) + len(result.unexpectedSuccesses)
-    for reason in sorted({reason for _, reason in result.skipped}):
-        print(f"not run: {reason}")
-    print(f"{result.passed} passed, {failed} failed", flush=True)
-    sys.exit(1 if failed else 0 if result.passed else SKIPPED)

@@ -1,7 +1,7 @@
 """Tries the tools on Debian's kernels, each booted once in a virtual machine: `make linux-vm`. apt downloads their packages, with lists
 of its own, into linux/out/kernels; those that are there are used again.
 
-    python3 linux/tests/run.py -p vm_trials.py [-k bookworm]
+    python3 tests/run.py linux/tests -p vm_trials.py [-k bookworm]
 
 On each kernel the programs that read queues and those of the recorder load, random scripts agree, queues among them, readers of queues with
 injected bugs are found, a recording is legal and as observed, and docs/LINUX.md has the kernel's column of differences. Where libthp and

@@ -1,4 +1,4 @@
-//! Runs of scripts on one node, with the reports `totals` that are known beforehand. `tests/rows.py` has the rows.
+//! Runs of scripts on one node, with the reports `totals` that are known beforehand. `tests/test_rows.py` has the rows.
 use crate::program::running::reports;
 
 pub(crate) const FIRST_SCRIPT: &[u8] = b"setup\nalloc 0\nsplitpmd 0 0\nunmap 0 0 0 256\nscan 0 8\n";

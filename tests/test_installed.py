@@ -1,7 +1,5 @@
 """`make uninstall` removes exactly the files of `make install`; manual pages and completions are sound.
 
-    python3 tests/installed.py
-
 A stand-in replaces the built programs, so nothing is proved or built here except what the tools for the running kernel have in C, which
 runs from the folder of the installation.
 """
@@ -12,21 +10,18 @@ import os
 import re
 import shutil
 import subprocess
-import tempfile
-from functools import partial
 from pathlib import Path
 from typing import IO
+from unittest import SkipTest, TestCase
 
+from fixtures import ROOT, add_tests, require_tool, temporary_folder
 from library import is_unprotected
-from tally import Missing, Tally
 
-ROOT = Path(__file__).resolve().parent.parent
-PAGES = ["docs/thpsplit.1", "docs/thpsplit.5", "docs/thpcheck.1", "docs/thpdraw.1"]
-COMPLETIONS = {"bash": "completions/thpsplit.bash", "zsh": "completions/_thpsplit", "fish": "completions/thpsplit.fish"}
-CHECKER_COMPLETIONS = {"bash": "completions/thpcheck.bash", "zsh": "completions/_thpcheck",
-                       "fish": "completions/thpcheck.fish"}
-DRAWER_COMPLETIONS = {"bash": "completions/thpdraw.bash", "zsh": "completions/_thpdraw", "fish": "completions/thpdraw.fish"}
-LIBRARY_PAGE = "docs/libthp.3"
+PROGRAMS = {"thpsplit": "thp_cli/src/options.rt", "thpcheck": "thp_journal_tools/src/program.rt",
+            "thpdraw": "thp_journal_tools/src/draw_program.rt"}
+"""The programs, and the sources of their options."""
+
+FORMATS_PAGE = "docs/thpsplit.5"
 TOOLS = {"thpreplay": "linux/thpreplay", "thprecord": "linux/thprecord", "thpvm": "linux/thpvm",
          "thpwhatif": "linux/whatif/thpwhatif"}
 """The tools for the running kernel, and their files in a checkout."""
@@ -51,44 +46,18 @@ PREFIX = "usr/local"
 
 
 def make(target: str, folder: Path, *more: str) -> str | None:
-    """What is wrong when `make` installs files below a folder, or removes them; or None."""
+    """What is wrong when `make` installs files below a folder, or removes them; or None. Skips the test if the tools can't be built."""
     words = ["make", "-s", target, f"PREFIX=/{PREFIX}", f"DESTDIR={folder}/root", f"PROGRAM={folder}/program",
              f"CHECKER={folder}/program", f"DRAWER={folder}/program", *more]
     done = subprocess.run(words, cwd=ROOT, capture_output=True, text=True, check=False)
     if "aren't installed: no " in done.stdout:
-        raise Missing(done.stdout.strip())
+        raise SkipTest(done.stdout.strip())
     return None if done.returncode == 0 else f"make {target}: {done.stderr.strip()}"
 
 
 def below(folder: Path) -> list[str]:
     """The files below a folder."""
     return sorted(str(path.relative_to(folder)) for path in folder.rglob("*") if path.is_file())
-
-
-def puts_and_takes_away() -> str | None:
-    """All files are installed, helpers with full RELRO, and the tools run from there; after their removal another program's file is
-    still there, and nothing else."""
-    with tempfile.TemporaryDirectory() as name:
-        folder = Path(name)
-        root = folder / "root"
-        (folder / "program").write_text("#!/bin/sh\n")
-        (root / PREFIX / "bin").mkdir(parents=True)
-        (root / PREFIX / "bin/another").touch()
-        wrong = make("put", folder)
-        if wrong:
-            return wrong
-        count = len(below(root)) - 1
-        wrong = make("put-tools", folder) or tools_run(root)
-        helpers = sorted(path for path in (root / PREFIX / "lib/thpsplit/linux/out").glob("*") if shutil.which("readelf"))
-        wrong = wrong or next(filter(None, map(is_unprotected, helpers)), None)
-        wrong = wrong or make("put-tools", folder, "SYSTEMD=1") or units_are_put(root) or make("uninstall", folder)
-        left = below(root)
-        is_left = (root / PREFIX / "lib/thpsplit").exists()
-    if wrong:
-        return wrong
-    if count != PUT:
-        return f"{count} files were put, not {PUT}"
-    return None if left == [f"{PREFIX}/bin/another"] and not is_left else f"left: {', '.join(left)}"
 
 
 def tools_run(root: Path) -> str | None:
@@ -122,24 +91,6 @@ def units_are_put(root: Path) -> str | None:
     return None if (modes, starts) == ({"0o644"}, [f"/{PREFIX}/bin/thpwhatif"]) else f"modes {modes}, starts {starts}"
 
 
-def units_are_sound() -> str | None:
-    """systemd finds no error in the units, and the service's command line is one of `thpwhatif`."""
-    if shutil.which("systemd-analyze") is None:
-        raise Missing("systemd-analyze isn't there")
-    words = []
-    with tempfile.TemporaryDirectory() as folder:
-        for name in UNITS:
-            text = (ROOT / "linux/whatif" / name).read_text()
-            words += re.findall(r"^ExecStart=/usr/bin/thpwhatif (.+)", text, re.M)
-            (Path(folder) / name).write_text(text.replace("/usr/bin/thpwhatif", str(ROOT / TOOLS["thpwhatif"])))
-        command = ["systemd-analyze", "verify", "--man=no", *(f"{folder}/{name}" for name in UNITS)]
-        done = subprocess.run(command, capture_output=True, text=True, check=False)
-    if done.returncode or done.stderr:
-        return f"status {done.returncode}: {done.stderr.strip()}"
-    options = {word[2:] for word in words[0].split() if word.startswith("--")}
-    return None if options <= options_of_tool("thpwhatif", words[0].split()[0]) else f"the service has {sorted(options)}"
-
-
 def called(program: Path, *words: str, out: int | IO[str] = subprocess.PIPE) -> subprocess.CompletedProcess[str]:
     """A program's end and outputs with these words."""
     wide = {**os.environ, "COLUMNS": "200"}
@@ -148,23 +99,10 @@ def called(program: Path, *words: str, out: int | IO[str] = subprocess.PIPE) -> 
 
 def page_is_sound(page: str) -> str | None:
     """A manual page gives no warning."""
-    if shutil.which("groff") is None:
-        raise Missing("groff isn't there")
+    require_tool("groff")
     words = ["groff", "-man", "-Tascii", "-ww", "-z", page]
     done = subprocess.run(words, cwd=ROOT, capture_output=True, text=True, check=False)
     return done.stderr.strip() or None
-
-
-def options_are_reported(path: str, options: str = "crates/thp_cli/src/options.rt") -> str | None:
-    """A file contains each option of a command line, and no other; for a manual page, its section of options. In fish's form an
-    option is `-l NAME`."""
-    source = (ROOT / options).read_text()
-    wanted = set(re.findall(r'(?:\.long\(|(?:flag|valued|number)\(\s*alloc,\s*)"([a-z]+)"', source)) | {"help", "version"}
-    text = (ROOT / path).read_text().replace("\\-", "-").split(".SH OPTIONS")[-1].split(".SH ")[0]
-    reported = set(re.findall(r"--([a-z]+)", text)) | set(re.findall(r" -l ([a-z]+)", text))
-    if reported == wanted:
-        return None
-    return f"lacks {sorted(wanted - reported)}, and has {sorted(reported - wanted)}"
 
 
 OPTION = re.compile(r"--([a-z][a-z-]*)")
@@ -176,15 +114,19 @@ def options_of_tool(tool: str, *command: str) -> set[str]:
     return {name for line in lines if line.startswith("  -") for name in OPTION.findall(re.split(r"\s{2,}", line.strip())[0])}
 
 
-def all_options(tool: str) -> set[str]:
-    """The options of a tool and of all its commands."""
-    commands = [(name,) for name in COMMANDS] if tool == "thpwhatif" else []
-    return options_of_tool(tool).union(*(options_of_tool(tool, *command) for command in commands))
+def all_options(name: str) -> set[str]:
+    """The options of a program, of which the sources are read, or of a tool and of all its commands."""
+    if name in PROGRAMS:
+        source = (ROOT / "crates" / PROGRAMS[name]).read_text()
+        return set(re.findall(r'(?:\.long\(|(?:flag|valued|number)\(\s*alloc,\s*)"([a-z]+)"', source)) | {"help", "version"}
+    commands = [(command,) for command in COMMANDS] if name == "thpwhatif" else []
+    return options_of_tool(name).union(*(options_of_tool(name, *command) for command in commands))
 
 
-def tool_options_are_listed(tool: str, path: str) -> str | None:
-    """A file contains each option of a tool for the running kernel, and no other; for a manual page, its sections of options."""
-    text, wanted = (ROOT / path).read_text().replace("\\-", "-"), all_options(tool)
+def options_differ(name: str, path: str) -> str | None:
+    """A file contains each option of a program or tool, and no other; a manual page in its sections of options. In fish's form an option
+    is `-l NAME`."""
+    text, wanted = (ROOT / path).read_text().replace("\\-", "-"), all_options(name)
     if path.endswith(".1"):
         text = "".join(part for part in text.split("\n.SH ")[1:] if "OPTIONS" in part.partition("\n")[0])
     found = set(OPTION.findall(text)) | set(re.findall(r"^complete .* -l ([a-z-]+)", text, re.M))
@@ -193,8 +135,7 @@ def tool_options_are_listed(tool: str, path: str) -> str | None:
 
 def bash_completes(tool: str, *command: str) -> str | None:
     """Bash offers exactly the options of a tool, or of one of its commands."""
-    if shutil.which("bash") is None:
-        raise Missing("bash isn't there")
+    require_tool("bash")
     words = " ".join([tool, *command, "--"])
     code = f"source {ROOT}/completions/{tool}.bash; COMP_WORDS=({words}); COMP_CWORD={len(command) + 1}; _{tool}"
     done = subprocess.run(["bash", "-c", f'{code}; echo "${{COMPREPLY[@]}}"'], cwd="/", capture_output=True, text=True, check=False)
@@ -206,9 +147,9 @@ SHARED = ("Scripts", "Errors of a text", "Reports", "Journals")
 """The sections of docs/FORMATS.md whose tables are in thpsplit(5), too."""
 
 
-def has_tables_of_formats(page: str = PAGES[1]) -> str | None:
-    """Each cell of the tables of docs/FORMATS.md that thpsplit(5) shares is in the same section of the page."""
-    document, roff = (ROOT / "docs/FORMATS.md").read_text(), (ROOT / page).read_text()
+def lacks_tables_of_formats() -> str | None:
+    """The cells of the tables of docs/FORMATS.md that thpsplit(5) shares but lacks in the same section, or None."""
+    document, roff = (ROOT / "docs/FORMATS.md").read_text(), (ROOT / FORMATS_PAGE).read_text()
     plain = re.sub(r"\\f[BIR]|^\.(?:TP|PP)$", "", roff, flags=re.M).replace("\\-", "-").replace("\\&", "")
     sections = {head.strip(): " ".join(text.split()) for head, _, text in (part.partition("\n") for part in plain.split("\n.SH "))}
     missing = []
@@ -223,39 +164,72 @@ def has_tables_of_formats(page: str = PAGES[1]) -> str | None:
 
 def reads_as(shell: str, path: str) -> str | None:
     """A shell reads its completions."""
-    if shutil.which(shell) is None:
-        raise Missing(f"{shell} isn't there")
+    require_tool(shell)
     done = subprocess.run([shell, "-n", path], cwd=ROOT, capture_output=True, text=True, check=False)
     return None if done.returncode == 0 and not done.stderr else done.stderr.strip() or f"status {done.returncode}"
 
 
-def main() -> None:
-    """Runs all tests."""
-    tally = Tally()
-    tally.run("make install and uninstall", puts_and_takes_away)
-    tally.run("units of systemd", units_are_sound)
-    for page in [*PAGES, *(f"docs/{tool}.1" for tool in TOOLS), LIBRARY_PAGE]:
-        tally.run(f"no warning in {page}", partial(page_is_sound, page))
-    tally.run(f"tables of docs/FORMATS.md in {PAGES[1]}", has_tables_of_formats)
-    for path in [PAGES[0], *COMPLETIONS.values()]:
-        tally.run(f"options in {path}", partial(options_are_reported, path))
-    for page, files, name in (PAGES[2], CHECKER_COMPLETIONS, "program"), (PAGES[3], DRAWER_COMPLETIONS, "draw_program"):
-        for path in [page, *files.values()]:
-            own = f"crates/thp_journal_tools/src/{name}.rt"
-            tally.run(f"options in {path}", partial(options_are_reported, path, own))
-    completions = [COMPLETIONS, CHECKER_COMPLETIONS, DRAWER_COMPLETIONS]
-    for tool in TOOLS:
-        files = {"bash": f"completions/{tool}.bash", "zsh": f"completions/_{tool}", "fish": f"completions/{tool}.fish"}
-        completions.append(files)
-        for path in [f"docs/{tool}.1", *files.values()]:
-            tally.run(f"options in {path}", partial(tool_options_are_listed, tool, path))
-        tally.run(f"bash completes {tool}", partial(bash_completes, tool))
-    for command in COMMANDS:
-        tally.run(f"bash completes thpwhatif {command}", partial(bash_completes, "thpwhatif", command))
-    for shell, path in (pair for files in completions for pair in files.items()):
-        tally.run(f"syntax of {path}", partial(reads_as, shell, path))
-    tally.end()
+class Installation(TestCase):
+    """What `make` installs and removes, with units of systemd."""
+
+    def setUp(self) -> None:
+        self.folder = temporary_folder(self)
+        self.root = self.folder / "root"
+        (self.folder / "program").write_text("#!/bin/sh\n")
+        (self.root / PREFIX / "bin").mkdir(parents=True)
+        (self.root / PREFIX / "bin/another").touch()
+
+    def test_make_install_and_uninstall(self) -> None:
+        """All files are installed, helpers with full RELRO, and the tools run from there; after their removal another program's file
+        is still there, and nothing else."""
+        self.assertIsNone(make("put", self.folder))
+        self.assertEqual(len(below(self.root)) - 1, PUT)
+        self.assertIsNone(make("put-tools", self.folder) or tools_run(self.root))
+        if shutil.which("readelf"):
+            for helper in sorted((self.root / PREFIX / "lib/thpsplit/linux/out").glob("*")):
+                self.assertIsNone(is_unprotected(helper))
+        self.assertIsNone(make("put-tools", self.folder, "SYSTEMD=1") or units_are_put(self.root) or make("uninstall", self.folder))
+        self.assertEqual(below(self.root), [f"{PREFIX}/bin/another"])
+        self.assertFalse((self.root / PREFIX / "lib/thpsplit").exists())
+
+    def test_units_of_systemd(self) -> None:
+        """systemd finds no error in the units, and the service's command line is one of `thpwhatif`."""
+        require_tool("systemd-analyze")
+        words = []
+        for name in UNITS:
+            text = (ROOT / "linux/whatif" / name).read_text()
+            words += re.findall(r"^ExecStart=/usr/bin/thpwhatif (.+)", text, re.M)
+            (self.folder / name).write_text(text.replace("/usr/bin/thpwhatif", str(ROOT / TOOLS["thpwhatif"])))
+        command = ["systemd-analyze", "verify", "--man=no", *(f"{self.folder}/{name}" for name in UNITS)]
+        done = subprocess.run(command, capture_output=True, text=True, check=False)
+        self.assertEqual((done.returncode, done.stderr), (0, ""))
+        options = {word[2:] for word in words[0].split() if word.startswith("--")}
+        self.assertLessEqual(options, options_of_tool("thpwhatif", words[0].split()[0]))
 
 
-if __name__ == "__main__":
-    main()
+class Pages(TestCase):
+    """Manual pages give no warning, and have exactly the options of a program or tool; one has the tables of docs/FORMATS.md."""
+
+    def test_tables_of_formats(self) -> None:
+        self.assertIsNone(lacks_tables_of_formats())
+
+
+class Completions(TestCase):
+    """Each shell reads its completions, which have exactly the options of a program or tool; Bash offers those of a tool."""
+
+
+COMPLETIONS = {name: {"bash": f"completions/{name}.bash", "zsh": f"completions/_{name}", "fish": f"completions/{name}.fish"}
+               for name in (*PROGRAMS, *TOOLS)}
+"""The completions of each program and tool, by shell."""
+
+CALLS = [*((tool,) for tool in TOOLS), *(("thpwhatif", command) for command in COMMANDS)]
+"""What Bash completes by running a tool."""
+
+add_tests(Pages, lambda _, page: page_is_sound(page),
+          ((f"no warning in {page}", page) for page in (*(f"docs/{name}.1" for name in COMPLETIONS), FORMATS_PAGE, "docs/libthp.3")))
+add_tests(Pages, lambda _, name: options_differ(name, f"docs/{name}.1"), ((f"options in docs/{name}.1", name) for name in COMPLETIONS))
+add_tests(Completions, lambda _, row: options_differ(*row),
+          ((f"options in {path}", (name, path)) for name, files in COMPLETIONS.items() for path in files.values()))
+add_tests(Completions, lambda _, words: bash_completes(*words), ((f"bash completes {' '.join(words)}", words) for words in CALLS))
+add_tests(Completions, lambda _, pair: reads_as(*pair),
+          ((f"syntax of {pair[1]}", pair) for files in COMPLETIONS.values() for pair in files.items()))

@@ -1,7 +1,5 @@
 """The release: what `make dist` makes of stand-ins for what was proved, what it refuses, and that it is reproducible.
 
-    python3 tests/release.py
-
 Nothing is proved here. The tree that is released has the files of this one, except that each crate is one line long; a stand-in replaces
 `rt`, the programs and the archive of the library.
 """
@@ -15,20 +13,20 @@ import shutil
 import subprocess
 import sys
 import tarfile
-import tempfile
 from collections.abc import Callable
-from functools import partial
+from functools import cached_property, partial
 from pathlib import Path
+from unittest import SkipTest, TestCase
 
-ROOT = Path(__file__).resolve().parent.parent
+from fixtures import ROOT, require_tool, temporary_folder
+from gate import Verdicts
+from test_installed import HELPERS, OVER_LIBTHP
+
 sys.path[:0] = [str(ROOT), str(ROOT / "release")]
 
 import version  # noqa: E402
-from gate import Verdicts  # noqa: E402
-from installed import HELPERS, OVER_LIBTHP  # noqa: E402
 from prove import RELEASED, below, released  # noqa: E402
 from protection import is_elf, is_stripped, weaknesses  # noqa: E402
-from tally import Missing, Tally  # noqa: E402
 
 NEEDED = ("git", "cc", "make", "ar", "objcopy", "readelf", "tar", "clang", "bpftool")
 LINE = "logic=proved functions=7 sum=00 native=nat,char,string logic-built=trusted libraries-built=trusted statements=trusted"
@@ -57,10 +55,9 @@ class Release:
 
     def __init__(self, folder: Path) -> None:
         for tool in NEEDED:
-            if shutil.which(tool) is None:
-                raise Missing(f"no {tool} here")
+            require_tool(tool)
         if not (ROOT / ".git").exists():
-            raise Missing("no checkout of git")
+            raise SkipTest("no checkout of git")
         self.folder, self.tree = folder, folder / "tree"
         (folder / "bin").mkdir()
         (folder / "bin/rt").write_text("#!/bin/sh\necho kit-of-a-test logic 00\n")
@@ -119,112 +116,10 @@ class Release:
         command = [sys.executable, str(self.tree / f"release/{name}.py"), *map(str, self.out), *words]
         return subprocess.run(command, cwd="/", capture_output=True, text=True, env=self.environment, check=False)
 
-    def refusal_differs(self, wanted: str) -> str | None:
-        """What is wrong when no release may be made, for a reason that contains these words."""
-        folder = self.folder / "refused"
-        done = self.script("dist", str(folder))
-        if done.returncode != 1 or not done.stderr.startswith("no release: ") or wanted not in done.stderr or done.stderr.count("\n") != 1:
-            return f"status {done.returncode}: {done.stderr.strip()[-300:]}"
-        return "it left a folder" if folder.exists() else None
-
-
-def lines_are_found() -> str | None:
-    """The gate finds the verdict line of each crate in the output of `rt ci`: not that of its tests, nor of a crate that fails."""
-    text = f"""== thp_links
-fn thp_links::a: proved
-{LINE}
-rt: thp_links proved
-== thp_links: its tests
-logic=proved tests=3 functions=1 sum=00
-rt: thp_links: its tests proved
-== thp_model
-{LINE}
-rt: thp_model NOT PROVED
-rt: thp_page is kept: an earlier run proved it
-"""
-    seen = Verdicts()
-    for line in text.splitlines(keepends=True):
-        seen.see(line)
-    return None if seen.lines == {"thp_links": f"{LINE}\n"} else f"{seen.lines}"
-
-
-def versions_differ() -> str | None:
-    """Sources, manual pages, library and cargo crates have one number. tests/package.py compares it with the packages."""
-    wrong = version.differing(version.PROGRAMS) + version.differing(version.LIBRARY)
-    programs, library = (next(iter(version.numbers(it).values())) for it in (version.PROGRAMS, version.LIBRARY))
-    wrong += [f"the programs have {programs}, the library {library}"] if programs != library else []
-    wrong += [] if version.tag() else [f"CHANGELOG.md doesn't begin with {programs} and what it is"]
-    return "; ".join(wrong) or None
-
-
-def refuses(release: Release) -> str | None:
-    """No release of crates without a verdict line, of other sources, of another program, or of an unprotected one."""
-    low, other = below("thpsplit")[0], release.tree / "crates/thp_c/out/verdict"
-    source, readme = release.tree / f"crates/{low}/src/lib.rt", release.tree / "README.md"
-    was, text, stored = source.read_text(), readme.read_text(), other.read_bytes()
-    other.unlink()
-    wrong = release.refusal_differs("no verdict line for the present sources of thp_c:")
-    other.write_bytes(stored)
-    readme.write_text(f"{text}more\n")
-    wrong = wrong or release.refusal_differs("the sources differ from the commit: README.md")
-    readme.write_text(text)
-    source.write_text(f"{was}// more\n")
-    release.commit()
-    wrong = wrong or release.refusal_differs(f"no verdict line for the present sources of {low}, ")
-    source.write_text(was)
-    release.commit()
-    release.build(["-no-pie"])
-    wrong = wrong or release.refusal_differs("isn't what was built when thpsplit was proved")
-    release.keep({name: LINE for name in released()})
-    wrong = wrong or release.refusal_differs("thpsplit has no position-independent code")
-    release.build()
-    release.keep({name: LINE for name in released()})
-    return wrong
-
-
-def is_recognised(release: Release) -> str | None:
-    """What is proved and built is recognised, and nothing else: neither a changed program or source, nor a missing line or archive. A line
-    alone binds no file; with the files that were built before from the same sources it does."""
-    source, line = release.tree / f"crates/{below('thpsplit')[0]}/src/lib.rt", release.tree / "crates/thpcheck/out/verdict"
-    wrong = [] if release.is_released() else ["the release itself isn't"]
-    for path in (release.out[0], release.out[-1], source, line):
-        was = path.read_bytes()
-        changes: tuple[Callable[[], object], ...] = (partial(path.write_bytes, was + b"\n//"), path.unlink)
-        for change in changes:
-            change()
-            wrong += [f"{path.name} may be another, or missing"] if release.is_released() else []
-            path.write_bytes(was)
-    line.unlink()
-    release.keep({"thpcheck": LINE}, "()")
-    wrong += ["a line alone binds the program"] if release.is_released() else []
-    release.keep({"thpcheck": ""})
-    wrong += [] if release.is_released() else ["a line and a program of the same sources aren't"]
-    return "; ".join(wrong) or None
-
-
-def packages_state(release: Release) -> str | None:
-    """What is wrong with the text that the packages get as PROOF, or with the refusal where a crate has no verdict line."""
-    done = release.script("proof")
-    lines = done.stdout.splitlines()
-    lacks = [name for name in released() if not any(line.split(maxsplit=1) == [name, LINE] for line in lines)]
-    begun = {line[:64] for line in lines}
-    lacks += [path.name for path in release.out if hashlib.sha256(path.read_bytes()).hexdigest() not in begun]
-    stored = release.tree / "crates/thp_c/out/verdict"
-    kept = stored.read_bytes()
-    stored.unlink()
-    refused = release.script("proof")
-    stored.write_bytes(kept)
-    if done.returncode != 0 or lacks:
-        return f"status {done.returncode}, lacks {lacks}: {done.stderr.strip()[-300:]}"
-    is_refused = refused.returncode == 1 and not refused.stdout and "no verdict line for the present sources of thp_c" in refused.stderr
-    return None if is_refused else f"without a line: status {refused.returncode}: {refused.stderr.strip()[-300:]}"
-
-
-def is_reproducible(release: Release) -> str | None:
-    """A second release, from a clone, has the same bytes. The first one is left in a folder."""
-    done = release.script("reproduce", str(release.folder / "made"), "release")
-    same = [line for line in done.stdout.splitlines() if line.endswith(": the same bytes")]
-    return None if done.returncode == 0 and len(same) == 4 else f"status {done.returncode}: {done.stdout[-600:]}{done.stderr[-300:]}"
+    @cached_property
+    def reproduced(self) -> subprocess.CompletedProcess[str]:
+        """The end of a release and a second one from a clone. The first one is left in the folder `made`."""
+        return self.script("reproduce", str(self.folder / "made"), "release")
 
 
 def unpacked(folder: Path) -> dict[str, Path]:
@@ -240,22 +135,6 @@ def unpacked(folder: Path) -> dict[str, Path]:
             raise ValueError(f"{path.name} has an owner, or more than one folder")
         found[re.sub(r"leversorrel-[\d.]+-", "", top)] = folder / members[0].name
     return found
-
-
-def archives_differ(release: Release) -> str | None:
-    """What is wrong with the archives: files, hashes in PROOF, stripping, protection, paths of the machine that made them."""
-    try:
-        places = unpacked(release.folder / "made")
-    except (ValueError, subprocess.CalledProcessError) as error:
-        return f"{error}"
-    if sorted(places) != ["source", "x86_64-linux", "x86_64-linux-debug"]:
-        return f"{sorted(places)}"
-    top = places["x86_64-linux"]
-    lacks = [name for name in HELD if not (top / name).exists()]
-    lacks += [f"PROOF of {name}" for name, place in places.items() if (place / "PROOF").read_bytes() != (top / "PROOF").read_bytes()]
-    if lacks:
-        return f"lacks {', '.join(lacks)}"
-    return proof_differs(release, top) or binaries_differ(top, places["x86_64-linux-debug"]) or sources_differ(release, places["source"])
 
 
 def proof_differs(release: Release, top: Path) -> str | None:
@@ -295,28 +174,134 @@ def binaries_differ(top: Path, debug: Path) -> str | None:
         linked = run(["readelf", "--string-dump=.gnu_debuglink", str(path)], top)
         wrong += [] if part.name in linked else [f"{path.name} doesn't name {part.name}"]
     where = [str(path) for folder in (top, debug) for path in folder.rglob("*")
-             if path.is_file() and re.search(rb"thp-dist-|thp-release-", path.read_bytes())]
+             if path.is_file() and re.search(rb"thp-dist-|thp-test-", path.read_bytes())]
     return "; ".join(wrong + [f"{name} has a path of the machine" for name in where]) or None
 
 
-def main() -> None:
-    """Runs all tests."""
-    tally = Tally()
-    tally.run("verdict lines in the output of rt ci", lines_are_found)
-    tally.run("one version", versions_differ)
-    with tempfile.TemporaryDirectory(prefix="thp-release-") as name:
-        try:
-            release = Release(Path(name))
-        except Missing as missing:
-            tally.skip("the release", str(missing))
-            tally.end()
-        tally.run("what a release refuses", partial(refuses, release))
-        tally.run("what is built is recognised", partial(is_recognised, release))
-        tally.run("what the packages state", partial(packages_state, release))
-        tally.run("the same bytes from a clone", partial(is_reproducible, release))
-        tally.run("archives, PROOF and binaries", partial(archives_differ, release))
-    tally.end()
+class Sources(TestCase):
+    """What a release takes from the sources and from the gate."""
+
+    def test_verdict_lines_in_the_output_of_rt_ci(self) -> None:
+        """The gate finds the verdict line of each crate: not that of its tests, nor of a crate that fails."""
+        text = f"""== thp_links
+fn thp_links::a: proved
+{LINE}
+rt: thp_links proved
+== thp_links: its tests
+logic=proved tests=3 functions=1 sum=00
+rt: thp_links: its tests proved
+== thp_model
+{LINE}
+rt: thp_model NOT PROVED
+rt: thp_page is kept: an earlier run proved it
+"""
+        seen = Verdicts()
+        for line in text.splitlines(keepends=True):
+            seen.see(line)
+        self.assertEqual(seen.lines, {"thp_links": f"{LINE}\n"})
+
+    def test_one_version(self) -> None:
+        """Sources, manual pages, library and cargo crates have one number. tests/package.py compares it with the packages."""
+        self.assertEqual(version.differing(version.PROGRAMS) + version.differing(version.LIBRARY), [])
+        programs, library = (next(iter(version.numbers(it).values())) for it in (version.PROGRAMS, version.LIBRARY))
+        self.assertEqual(programs, library)
+        self.assertTrue(version.tag(), f"CHANGELOG.md doesn't begin with {programs} and what it is")
 
 
-if __name__ == "__main__":
-    main()
+class Releases(TestCase):
+    """What a release refuses, what it recognises as proved, and what it makes. Each test leaves the tree of stand-ins as it was."""
+
+    release: Release
+
+    @classmethod
+    def setUpClass(cls) -> None:
+        cls.release = Release(temporary_folder(cls))
+
+    def check_refusal(self, wanted: str) -> None:
+        """No release may be made, for a reason that contains these words."""
+        folder = self.release.folder / "refused"
+        done = self.release.script("dist", str(folder))
+        with self.subTest(wanted=wanted):
+            self.assertEqual((done.returncode, done.stderr[:12], done.stderr.count("\n")), (1, "no release: ", 1), done.stderr[-300:])
+            self.assertIn(wanted, done.stderr)
+            self.assertFalse(folder.exists())
+
+    def test_what_a_release_refuses(self) -> None:
+        """No release of crates without a verdict line, of other sources, of another program, or of an unprotected one."""
+        release = self.release
+        low, other = below("thpsplit")[0], release.tree / "crates/thp_c/out/verdict"
+        source, readme = release.tree / f"crates/{low}/src/lib.rt", release.tree / "README.md"
+        was, text, stored = source.read_text(), readme.read_text(), other.read_bytes()
+        other.unlink()
+        self.check_refusal("no verdict line for the present sources of thp_c:")
+        other.write_bytes(stored)
+        readme.write_text(f"{text}more\n")
+        self.check_refusal("the sources differ from the commit: README.md")
+        readme.write_text(text)
+        source.write_text(f"{was}// more\n")
+        release.commit()
+        self.check_refusal(f"no verdict line for the present sources of {low}, ")
+        source.write_text(was)
+        release.commit()
+        release.build(["-no-pie"])
+        self.check_refusal("isn't what was built when thpsplit was proved")
+        release.keep({name: LINE for name in released()})
+        self.check_refusal("thpsplit has no position-independent code")
+        release.build()
+        release.keep({name: LINE for name in released()})
+
+    def test_what_is_built_is_recognised(self) -> None:
+        """What is proved and built is recognised, and nothing else: neither a changed program or source, nor a missing line or archive.
+        A line alone binds no file; with the files that were built before from the same sources it does."""
+        release = self.release
+        source, line = release.tree / f"crates/{below('thpsplit')[0]}/src/lib.rt", release.tree / "crates/thpcheck/out/verdict"
+        self.assertTrue(release.is_released())
+        for path in (release.out[0], release.out[-1], source, line):
+            was = path.read_bytes()
+            changes: tuple[Callable[[], object], ...] = (partial(path.write_bytes, was + b"\n//"), path.unlink)
+            for change in changes:
+                change()
+                with self.subTest(path=path.name):
+                    self.assertFalse(release.is_released(), "it may be another, or missing")
+                path.write_bytes(was)
+        line.unlink()
+        release.keep({"thpcheck": LINE}, "()")
+        self.assertFalse(release.is_released(), "a line alone binds the program")
+        release.keep({"thpcheck": ""})
+        self.assertTrue(release.is_released(), "a line and a program of the same sources aren't recognised")
+
+    def test_what_the_packages_state(self) -> None:
+        """The text that the packages get as PROOF has each line and hash, and is refused where a crate has no verdict line."""
+        done = self.release.script("proof")
+        self.assertEqual(done.returncode, 0, done.stderr)
+        lines = done.stdout.splitlines()
+        for name in released():
+            self.assertIn([name, LINE], [line.split(maxsplit=1) for line in lines])
+        hashes = {hashlib.sha256(path.read_bytes()).hexdigest() for path in self.release.out}
+        self.assertLessEqual(hashes, {line[:64] for line in lines})
+        stored = self.release.tree / "crates/thp_c/out/verdict"
+        kept = stored.read_bytes()
+        stored.unlink()
+        refused = self.release.script("proof")
+        stored.write_bytes(kept)
+        self.assertEqual((refused.returncode, refused.stdout), (1, ""))
+        self.assertIn("no verdict line for the present sources of thp_c", refused.stderr)
+
+    def test_the_same_bytes_from_a_clone(self) -> None:
+        """A second release, from a clone, has the same bytes."""
+        done = self.release.reproduced
+        same = [line for line in done.stdout.splitlines() if line.endswith(": the same bytes")]
+        self.assertEqual((done.returncode, len(same)), (0, 4), f"{done.stdout[-600:]}{done.stderr[-300:]}")
+
+    def test_archives_with_proof_and_binaries(self) -> None:
+        """The archives have their files, hashes in PROOF, protected and stripped binaries, and no path of the machine that made them."""
+        self.assertEqual(self.release.reproduced.returncode, 0)
+        places = unpacked(self.release.folder / "made")
+        self.assertEqual(sorted(places), ["source", "x86_64-linux", "x86_64-linux-debug"])
+        top = places["x86_64-linux"]
+        self.assertEqual([name for name in HELD if not (top / name).exists()], [])
+        for place in places.values():
+            self.assertEqual((place / "PROOF").read_bytes(), (top / "PROOF").read_bytes())
+        self.assertIsNone(proof_differs(self.release, top))
+        self.assertIsNone(binaries_differ(top, places["x86_64-linux-debug"]))
+        self.assertIsNone(sources_differ(self.release, places["source"]))

@@ -9,13 +9,13 @@ that is not counted.
 
 from __future__ import annotations
 
+import os
 import re
-import sys
+import unittest
 from pathlib import Path
 
-from tally import Tally
+from fixtures import ROOT
 
-ROOT = Path(__file__).resolve().parent.parent
 STORED = ROOT / "tests/stored/surface.txt"
 
 WITH_LINKS = ("thp_links", "thp_page")
@@ -71,35 +71,12 @@ def surface() -> str:
     return "".join(f"{line}\n" for crate in WITH_LINKS for line in offered(crate))
 
 
-def links_are_read_as_listed() -> str | None:
-    """The crates with links have no public function except those that are listed."""
-    now, stored = set(surface().splitlines()), set(STORED.read_text().splitlines())
-    more, less = sorted(now - stored), sorted(stored - now)
-    return f"new: {more}; gone: {less}" if more or less else None
-
-
-def handles_are_kept() -> str | None:
-    """HANDLES is the one line."""
-    text = (ROOT / "HANDLES").read_text()
-    return None if text == "Handles allowed: Threads, Wait.\n" else repr(text)
-
-
 def handles_in(text: str) -> set[str]:
     """The handles that a text requires by a bound.
 
     A bound is named alone or after a module; what comes after a type, as in `Quantity::Wait`, is a variant of it.
     """
     return set(re.findall(r"(?:(?<!:)[:+(]|impl|\b[a-z_]\w*::) *(Wait|Net|Processes|Abort|Threads)\b", text))
-
-
-def nobody_waits() -> str | None:
-    """No library requires `Wait`, `Net`, `Processes` or `Abort` by a bound, and only those that start threads require
-    `Threads`."""
-    wrong = []
-    for crate in libraries():
-        bounds = handles_in("\n".join(path.read_text() for path in sources(crate)))
-        wrong += [f"{crate}: {bound}" for bound in sorted(bounds) if bound != "Threads" or crate not in WITH_THREADS]
-    return ", ".join(wrong) or None
 
 
 LOCK = (
@@ -109,26 +86,30 @@ LOCK = (
 """The lock step of a cell, which returns false if another pass has the node, and one that sleeps until the node is free."""
 
 
-def a_mutex_round_the_node() -> str | None:
-    """A lock step that sleeps requires the handle `Wait`, which `nobody_waits` refuses."""
-    text = (ROOT / "crates/thp_cell/src/cell.rt").read_text()
-    if text.count(LOCK[0]) != 1 or "Wait" in handles_in(text):
-        return f"cell.rt has no lock step `{LOCK[0]}`, or waits already"
-    return None if handles_in(text.replace(*LOCK)) == {"Wait"} else "a lock step that sleeps is not refused"
+class Surface(unittest.TestCase):
+    """The sources export and require what is listed."""
 
+    def test_handles_are_the_one_line(self) -> None:
+        """HANDLES is as it was."""
+        self.assertEqual((ROOT / "HANDLES").read_text(), "Handles allowed: Threads, Wait.\n")
 
-def main() -> None:
-    """Checks the sources, or stores what they export."""
-    if sys.argv[1:] == ["--store"]:
-        STORED.write_text(surface())
-        return
-    tally = Tally()
-    tally.run("HANDLES is as it was", handles_are_kept)
-    tally.run("no library waits, and only those listed start threads", nobody_waits)
-    tally.run("a_mutex_round_the_node is refused", a_mutex_round_the_node)
-    tally.run("links of pages are read as listed", links_are_read_as_listed)
-    tally.end()
+    def test_no_library_waits(self) -> None:
+        """No library requires `Wait`, `Net`, `Processes` or `Abort` by a bound, and only those that start threads require `Threads`."""
+        for crate in libraries():
+            with self.subTest(crate=crate):
+                bounds = handles_in("\n".join(path.read_text() for path in sources(crate)))
+                self.assertLessEqual(bounds, {"Threads"} if crate in WITH_THREADS else set())
 
+    def test_a_mutex_round_the_node(self) -> None:
+        """A lock step that sleeps requires the handle `Wait`, which `test_no_library_waits` refuses."""
+        text = (ROOT / "crates/thp_cell/src/cell.rt").read_text()
+        self.assertEqual(text.count(LOCK[0]), 1, "cell.rt has another lock step")
+        self.assertEqual((handles_in(text) & {"Wait"}, handles_in(text.replace(*LOCK))), (set(), {"Wait"}))
 
-if __name__ == "__main__":
-    main()
+    def test_links_of_pages_are_read_as_listed(self) -> None:
+        """The crates with links have the public functions that are listed, and no other."""
+        if os.environ.get("STORE") == "1":
+            STORED.write_text(surface())
+        now, stored = set(surface().splitlines()), set(STORED.read_text().splitlines())
+        if now != stored:
+            self.fail(f"new: {sorted(now - stored)}; gone: {sorted(stored - now)}")
