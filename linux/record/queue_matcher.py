@@ -35,7 +35,7 @@ class QueueMatcher(MappingEvents):
         for page in self.joining.values():
             if page.folio not in shown and page in self.queue and not page.is_freed:
                 self.move_to_end({page})  # its allocation put it into our queue, but it is not in the kernel's yet
-        found = [page for page in map(self.at.get, queue) if page and page.born <= self.now]
+        found = [page for page in map(self.page_at, queue) if page and page.born <= self.now]
         if not self._reorder([page for page in found if page in self.queue]):
             return
         later = {page for page in self.queue if page.born > self.now or page.entered > self.now and page.folio not in shown}
@@ -56,28 +56,25 @@ class QueueMatcher(MappingEvents):
             if not differs:
                 self.end_doubt()
                 joining = {page.folio for page in self.joining.values()}
-                known = {*takewhile(lambda folio: self.at.get(folio) not in later, queue)} - joining
+                known = {*takewhile(lambda folio: self.page_at(folio) not in later, queue)} - joining
                 for page in takewhile(lambda page: page not in later, self.queue):
                     if page.folio in known:
                         page.join = None  # so is its place
 
     def _is_journal_queue(self, queue: list[int]) -> bool:
         """Returns whether a copy equals the journal's queue and nothing runs that it could show: the usual case, and quick."""
-        if self.scans or self.joining or len(queue) != len(self.queue):
-            return False
-        same = [page.folio for page in self.queue] == queue and [*map(self.at.get, queue)] == [*self.queue]
-        return same and all(call.kind is not Kind.COLLAPSED for call in self.pending.values())
+        runs = self.scans or self.joining or any(call.kind is Kind.COLLAPSED for call in self.pending.values())
+        return not runs and len(queue) == len(self.queue) and [*map(self.at.get, queue)] == [*self.queue]
 
     def emit_early_joins(self, queue: list[int]) -> None:
-        """Emits events of pages that are in the kernel's queue but not in ours: collapses and calls that still run, and
-        processes that are ending."""
+        """Emits events of pages that are in the kernel's queue, not in ours: of collapses and calls that run, of processes that end."""
         own_queue = {page.folio for page in self.queue}
         made = {call.values[4]: key for key, call in self.pending.items() if call.kind is Kind.COLLAPSED}
         for folio in [folio for folio in queue if folio not in own_queue]:
             if folio in made and made[folio] in self.pending:
                 self.apply(self.pending.pop(made[folio]), queue)
                 continue
-            page = self.at.get(folio)
+            page = self.page_at(folio)
             if page and not page.is_taken and page.born <= self.now:
                 self.emit_join(page, queue)
                 if page not in self.queue and page.is_live:
@@ -109,7 +106,7 @@ class QueueMatcher(MappingEvents):
             self.dequeue(page)
         elif not running:
             why = Omission.SPLIT_BY_MIGRATION if page.freed_frames else Omission.UNSEEN_COLLAPSE
-            self.omit(page, Omission.UNSEEN_SCAN if self.is_missing else why)
+            self.omit(page, Omission.UNSEEN_SCAN if self.tallies[Count.SCANS_MISSING] else why)
             self.dequeue(page)
 
     def move_to_end(self, later: set[Page]) -> None:
