@@ -1,5 +1,5 @@
 """The state of a journal while it is built: pages, and the address spaces that map them, the queue, what runs, and the journal so
-far. Of a freed page one byte remains."""
+far. Of a page at rest a number is kept, of a freed one a byte."""
 
 from __future__ import annotations
 
@@ -53,7 +53,7 @@ class Page:
     __slots__ = (
         "number", "folio", "subpages", "every", "held", "born", "maps", "is_live", "is_omitted", "is_freed", "last_change",
         "pins", "is_taken", "is_partly_mapped", "partly_since", "split", "freed_frames", "written", "is_seen", "is_tried", "has_joined",
-        "is_perhaps_taken", "missed", "entered", "join")  # from `pins` on changes, which a page at rest hasn't
+        "is_perhaps_taken", "missed", "entered", "join")  # of a page at rest these are 0 from `pins` on
 
     def __init__(self, number: int, folio: int, subpages: int, every: int, born: int) -> None:
         self.number, self.folio, self.subpages, self.every, self.held, self.born = number, folio, subpages, every, every, born
