@@ -9,7 +9,7 @@ from .calls import list_removals
 from .mappings import MappingEvents
 from .reasons import Count, Doubt, Omission
 from .records import QUEUE_MOST, Kind
-from .state import Page
+from .state import LINES, Page
 
 
 class QueueMatcher(MappingEvents):
@@ -55,11 +55,11 @@ class QueueMatcher(MappingEvents):
             self.tallies[Doubt.QUEUES if self.is_doubted else Count.QUEUES_DIFFER] += differs
             if not differs:
                 self.end_doubt()
-                joining = {page.folio for page in self.joining.values()}
-                known = {*takewhile(lambda folio: self.page_at(folio) not in later, queue)} - joining
-                for page in takewhile(lambda page: page not in later, self.queue):
-                    if page.folio in known:
-                        page.join = None  # so is its place
+                shown = {*takewhile(lambda folio: self.at.get(folio) not in later, queue)} - {page.folio for page in self.joining.values()}
+                known = [page for page in takewhile(lambda page: page not in later, self.queue) if page.folio in shown]
+                for page in known:
+                    page.join = None
+                self.lines.more = LINES * (len(self.queue) - len(known))
 
     def _is_journal_queue(self, queue: list[int]) -> bool:
         """Returns whether a copy equals the journal's queue and nothing runs that it could show: the usual case, and quick."""

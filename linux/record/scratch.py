@@ -84,7 +84,7 @@ class JournalLines:
     def __init__(self) -> None:
         self.latest: list[JournalLine] = []
         self.final = 0  # how many lines went to the file
-        self.more = 0  # lines beyond WINDOW that can be reordered: as many as the queue has pages
+        self.more = 0  # lines beyond WINDOW that can be reordered: those of pages whose places in the queue aren't known
         self._file = ScratchFile("the journal")
 
     def add(self, line: JournalLine) -> None:

@@ -22,6 +22,7 @@ from .records import Kind, Record
 from .scratch import JournalLine, JournalLines
 
 FOREVER = 1 << 64
+LINES = 3  # of a page until it joins the queue: alloc, splitpmd, unmapsub
 SPARE_PLACES = 64  # of an address space's former mappings
 MOST_AWAKE = 4096  # pages that aren't looked at whether they can rest
 PACKED = struct.Struct("<I?4Q")  # a page at rest: number, is_freed, born, last_change, address, address space
@@ -332,7 +333,7 @@ class State:
         self.changes += 1
         page.entered = self.now
         self.queue[page] = self.journal_queue[page] = None
-        self.lines.more = len(self.queue)
+        self.lines.more = LINES * min(self.lines.more // LINES + 1, len(self.queue))
         page.join = self.lines.latest[-1] if self.lines.latest else None
 
     def dequeue(self, page: Page) -> None:

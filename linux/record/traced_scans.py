@@ -23,8 +23,7 @@ AHEAD = 512  # records that are looked at before one is taken
 
 
 def with_bounds(records: Iterable[Record]) -> Iterator[tuple[Record, int]]:
-    """Yields records, each with a time (ns) by which it had its place in the ring: its own time is later where a processor was taken away
-    meanwhile, but no record behind it has an earlier place."""
+    """Yields records, each with a time (ns) by which it had its place in the ring: the least of its own and those of the next ones."""
     ahead: deque[Record] = deque()
     least: deque[int] = deque()  # of the times ahead, those that no later record's time is below
     for record in records:
