@@ -86,7 +86,3 @@ class CounterWatch:
         moved = self._take(self._orders).since(before).names()
         self.moved.update(moved)
         return not moved
-
-    def watch_until(self, seconds: float) -> bool:
-        """Watches window after window until a counter moves or the time is over; returns whether none moved."""
-        return all(self.watch_once() for _ in range(max(1, round(seconds / WINDOW))))

@@ -214,8 +214,7 @@ def put_back(undo: Undo) -> tuple[list[str], dict[str, int]]:
 
 
 def put_back_all(folder: str) -> tuple[Undo, list[str]]:
-    """Puts back what is stored below a folder; returns what that was, and what could not be put back. Groups that could not be removed
-    stay stored."""
+    """Puts back what is stored below a folder; returns what that was, and what could not be put back. Those groups stay stored."""
     undo, unread = load(f"{folder}/{UNDO}")
     problems, left = put_back(undo)
     with suppress(OSError):

@@ -166,8 +166,7 @@ class Keeper:
             raise Unavailable(f"{name} can't be set to {value}: {error.strerror}") from error
 
     def make_group(self, path: PathText) -> int:
-        """Makes a control group, and returns its inode. Until that is stored, the group is removed at the end if it is empty, and nothing
-        in it is killed."""
+        """Makes a control group, and returns its inode. Until that is stored, it is only removed at the end if it is empty."""
         before, name = self._undo, str(path)
         try:
             self._note("groups", name, 0)

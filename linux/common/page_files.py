@@ -79,8 +79,7 @@ class Frames:
 
 
 def numa_frames(text: str | None = None) -> dict[int, list[range]]:
-    """Returns the ranges of frames of each NUMA node that has memory. Unavailable where two nodes' ranges overlap: a
-    frame's node isn't known then."""
+    """Returns the ranges of frames of each NUMA node that has memory. Unavailable where those of two nodes overlap."""
     parts = _ZONE.split(read("/proc/zoneinfo") if text is None else text)
     out: dict[int, list[range]] = {}
     for node, zone in zip(parts[1::2], parts[2::2]):

@@ -36,13 +36,6 @@ from .report import JournalFile, Outputs, Report
 NAME = "thprecord"
 
 
-def commands_for(options: Namespace) -> list[list[str]]:
-    """Returns the command given, or a workload for each order."""
-    if options.command:
-        return [options.command]
-    return [[helper("workload"), *options.own[:3], str(order), *options.own[3:]] for order in options.order]
-
-
 def report_progress(what: str, share: float, last: list[float]) -> None:
     """Writes a line on a terminal's standard error, once a second (`last`: when it did): how much of something is done."""
     if sys.stderr.isatty() and time.monotonic() > last[0] + 1:
@@ -80,7 +73,8 @@ def record(options: Namespace) -> int:
     check_command(options)
     with closing(Outputs(options, len(memory.numa_nodes()))) as outputs:
         with Keeper(NAME, wait=options.wait) as keeper:
-            recording = Recorder(options, keeper, memory).record(commands_for(options))
+            own = [[helper("workload"), *options.own[:3], str(each), *options.own[3:]] for each in options.order if not options.command]
+            recording = Recorder(options, keeper, memory).record(own or [options.command])
         if recording.ended:
             print(f"the recording was ended {recording.ended}", flush=True)
         for status in recording.statuses if options.command else ():

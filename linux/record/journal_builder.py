@@ -19,7 +19,7 @@ from .observed import Observations
 from .queue_laws import QueueLaws
 from .reasons import Count, Omission
 from .records import IN_FAULT, JOINED, OBSERVED, QUEUE_MOST, WITH_QUEUE, Batch, Kind, Record
-from .state import Page
+from .state import MOST_AWAKE, Page
 from .traced_scans import TracedScans, with_bounds
 
 WRITTEN = 3  # bits of a fault's error code: present, written
@@ -57,10 +57,13 @@ class JournalBuilder(TracedScans):
                 self._end_last_step(record)
             if not record.is_applied:
                 handlers[record.kind](record)
+            if len(self.awake) > MOST_AWAKE:
+                self.rest_pages(self._fault_pages.values())
+        self.at, self.resting, self.spaces = {}, {}, {}  # the journal is written without them
 
     def _add_observed(self, record: Record) -> None:
         """Notes what function tracing has observed, and emits the event by which a page has joined the queue."""
-        page, scan = self.at.get(record.values[0]), None if self.is_doubted else self.scans.get(record.task)
+        page, scan = self.page_at(record.values[0]), None if self.is_doubted else self.scans.get(record.task)
         is_ordered = scan and len(self.scans) == len(scan.batches) == 1 and record.kind is Kind.BATCH
         queue = [each.folio if each else 0 for each in scan.pages] if scan and is_ordered else None
         self.observations.add(record, page.number if page else None, queue)
@@ -135,8 +138,7 @@ class JournalBuilder(TracedScans):
                 del pages[task]
 
     def handle_alloc(self, record: Record) -> None:
-        """Adds a page that a fault made, or begins a collapse: it counts as a call that unmaps a region, until its end or until
-        something shows it."""
+        """Adds a page that a fault made, or begins a collapse: it counts as a call that unmaps a region, until something shows it."""
         folio, order, how, address = record.values[:4]
         if record.end:
             space, _, _, index = record.end.values[:4]
@@ -156,7 +158,7 @@ class JournalBuilder(TracedScans):
         """Emits what was written since the last look at a page: data where zeros were, and zeros where data was. What the first
         look finds was written at the allocation, unless a scan tried the page since: until then nothing is known of it. A page
         that was made or changed during the look is left to the next one."""
-        page, began = self.at.get(record.values[0]), record.values[1]
+        page, began = self.page_at(record.values[0]), record.values[1]
         if page is None or record.contents is None or page.split or page.born > began or page.last_change > began:
             return
         data, zero = record.contents
@@ -186,7 +188,7 @@ class JournalBuilder(TracedScans):
     def handle_free(self, record: Record) -> None:
         """Notes that a page or a frame of it was freed."""
         freed, order = record.values[:2]
-        page = self.at.get(freed & -(self.page_size << self.order))
+        page = self.page_at(freed & -(self.page_size << self.order))
         if page and order == 0:
             page.freed_frames |= 1 << (freed - page.folio) // self.page_size
             scan = self.scans.get(record.task)
@@ -210,7 +212,7 @@ class JournalBuilder(TracedScans):
 
     def handle_moved(self, record: Record) -> None:
         """Notes that a page is mapped again. If its folio is new, the free of the old folio completes the migration."""
-        if record.values[1] not in self.at:
+        if not self.page_at(record.values[1]):
             self._moves[record.task].append(record)
 
     def _has_migrated(self, task: int, page: Page) -> bool:
@@ -221,7 +223,7 @@ class JournalBuilder(TracedScans):
             if inside and order == self.order and page.is_live and not page.split:
                 self.tallies[Count.MIGRATED] += 1
                 del self.at[page.folio]
-                page.folio, self.at[folio] = folio, page
+                self.put_at(page, folio)
                 if page in self.queue:
                     self.omit(page, Omission.MIGRATED)
                 return True

@@ -29,8 +29,7 @@ class MappingEvents(State):
             self._add_collapsed_page(record)
 
     def apply_early(self, record: Record, page: Page, queue: list[int] | None) -> None:
-        """Emits what a running call has done to one page. Events of the other pages that the call reaches follow at its
-        end, or as soon as something shows them."""
+        """Emits what a running call has done to one page. Those of other pages follow at its end, or as soon as something shows them."""
         for effect in list_removals(record):
             if page.mapping_in(record.space):
                 self._apply_effect(record, effect, page, queue)
@@ -64,9 +63,9 @@ class MappingEvents(State):
         space = record.space = record.values[0]
         self.ends.pop(space, None)
         self._remapped.discard(space)
-        ended = self.spaces.pop(space, None)
-        for page, mapping in ended.between() if ended else ():
+        for page, mapping in self.spaces[space].between() if space in self.spaces else ():
             self.unmap(record, page, mapping, page.every, record.queue)
+        self.spaces.pop(space, None)
 
     def end_early(self, page: Page, queue: list[int]) -> None:
         """Removes a page whose processes have ended, before their end is recorded."""
@@ -101,10 +100,9 @@ class MappingEvents(State):
             self.drop_mapping(page, mapping.space)
 
     def compare_counts(self, record: Record) -> None:
-        """Compares a page's map counts at a call's end with those of the journal, if no other call or scan can have
-        changed them meanwhile."""
+        """Compares a page's map counts at a call's end with those of the journal, if no other call or scan can have changed them."""
         folio, whole, total, mapped = record.counts()
-        page = self.at.get(folio)
+        page = self.page_at(folio)
         mapping = page.mapping_in(record.space) if page else None
         if not page or not mapping or page.split or page.is_omitted or self.scans or page.last_change > record.time:
             return
@@ -164,8 +162,7 @@ class MappingEvents(State):
         return bits_of((low - mapping.base) // BASE, (high - low) // BASE)
 
     def _move_mapping(self, record: Record, page: Page, mapping: Mapping, bits: int, by: int) -> None:
-        """Moves a mapping within its address space. A PMD mapping remains one if both places are aligned to it
-        (mm/mremap.c: move_page_tables)."""
+        """Moves a mapping within its address space. A PMD mapping remains one between places aligned to it (move_page_tables)."""
         if mapping.bits & ~bits:
             self.omit(page, Omission.PART_MOVED)
         if mapping.whole and page.subpages == 1 << PMD_ORDER and by % (BASE << PMD_ORDER):
@@ -212,8 +209,7 @@ class MappingEvents(State):
         return "stays", 0
 
     def _is_taken_by_scan(self, page: Page) -> bool:
-        """Returns whether a scan that still runs may have taken the page: one that takes more pages than were in the
-        queue when its start was recorded."""
+        """Returns whether a scan that runs may have taken the page: one that takes more pages than the queue had at its recorded start."""
         for scan in self.scans.values():
             if scan.start.queue is not None and len(scan.pages) < scan.start.values[0]:
                 scan.pages.append(page)

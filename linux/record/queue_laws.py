@@ -41,6 +41,7 @@ class QueueLaws:
         self._settled = 0  # until when scans that have ended may have taken pages
         self._changed: dict[int, int] = {}  # when pages were last freed or made
         self._free: dict[int, int] = {}  # of those, when pages were freed that weren't made since
+        self._forgotten = 0  # until when pages were freed and made that aren't kept
         self._last: list[int] = []  # the last copy
         self._begun = 0  # and when that was
         self._over = 0  # by when it was complete
@@ -50,7 +51,7 @@ class QueueLaws:
         kind, time, changed = record.kind, record.time, self._changed
         if kind in PLACES:
             self._note(record, record.values[PLACES[kind]])
-        if record.twice and not self._running and self._ended < time and changed.get(record.twice, 0) < time:
+        if record.twice and not self._running and max(self._ended, self._forgotten, changed.get(record.twice, 0)) < time:
             self._tallies[Count.MET_TWICE] += 1
         if record.foreign:
             self._tallies[Count.FOREIGN] += 1
@@ -67,8 +68,7 @@ class QueueLaws:
         elif kind is Kind.SCAN:
             self._running[record.task] = RunningScan({*(record.queue or ())}, len([*batches_of(*record.values[:2])]) < 2)
         elif kind is Kind.SCANNED:
-            scan = self._running[record.task] if record.task in self._running else RunningScan(frozenset(), False)
-            self._running.pop(record.task, None)
+            scan = self._running.pop(record.task, RunningScan(frozenset(), False))
             self._ended = max(self._ended, time)
             self._settled = max(self._settled, scan.taken if scan.takes_once and scan.taken else time)
 
@@ -82,9 +82,9 @@ class QueueLaws:
             if is_free:
                 self._free[page] = record.time
         if len(changed) > MANY:
-            self._changed = {each: time for each, time in changed.items() if time > record.time - SOON}
+            self._forgotten, self._last = record.time - SOON, []
+            self._changed = {each: time for each, time in changed.items() if time > self._forgotten}
             self._free = {each: time for each, time in self._free.items() if each in self._changed}
-            self._last = []
         scan = self._running.get(record.task) if is_frame else None
         if scan and page & self._mask in scan.pages:
             if record.values[2] and page in scan.frames:
@@ -95,7 +95,7 @@ class QueueLaws:
     def _compare(self, queue: list[int], begun: int) -> None:
         """Compares a copy with the last one, if that was complete before."""
         last, since, changed = self._last, self._begun, self._changed
-        if last and not 0 < self._over <= begun:
+        if begun <= self._forgotten or last and not 0 < self._over <= begun:
             return
         self._last, self._begun, self._over = queue, begun, 0
         if queue[: len(last)] == last or self._settled >= since:

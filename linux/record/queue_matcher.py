@@ -2,23 +2,26 @@
 
 from __future__ import annotations
 
+from itertools import takewhile
+from typing import AbstractSet
+
 from .calls import list_removals
 from .mappings import MappingEvents
 from .reasons import Count, Doubt, Omission
 from .records import QUEUE_MOST, Kind
-from .state import Page
+from .state import LINES, Page
 
 
 class QueueMatcher(MappingEvents):
     """Matches the journal's queue with copies of the kernel's (folios, oldest first), and compares them. Of a page that was made after
-    a copy was begun it shows nothing: it may show the former page at that place."""
+    a copy was begun it shows nothing: it may show the former page at that place. One that joined after that it may lack."""
 
     def match(self, queue: list[int] | None) -> None:
         """Emits events of running calls until the journal's queue matches a copy of the kernel's, and compares both."""
         if queue is None:
             return
         if self._is_journal_queue(queue):
-            self._count(False)
+            self._count(False, queue, {page for page in self.queue if page.born > self.now})
             return
         shown = {*queue}
         for page in self.joining.values():
@@ -27,53 +30,51 @@ class QueueMatcher(MappingEvents):
         if self.scans:
             return
         for page in list(self.queue):
-            if page.folio not in shown and page not in self.joining.values() and page in self.queue and page.born <= self.now:
+            if page.folio not in shown and page not in self.joining.values() and page in self.queue and page.entered <= self.now:
                 self._emit_leave(page, queue)
         for page in self.joining.values():
             if page.folio not in shown and page in self.queue and not page.is_freed:
                 self.move_to_end({page})  # its allocation put it into our queue, but it is not in the kernel's yet
-        found = [page for page in map(self.at.get, queue) if page and page.born <= self.now]
+        found = [page for page in map(self.page_at, queue) if page and page.born <= self.now]
         if not self._reorder([page for page in found if page in self.queue]):
             return
-        skip = {*self.joining.values(), *(page for page in self.queue if page.born > self.now)}
+        later = {page for page in self.queue if page.born > self.now or page.entered > self.now and page.folio not in shown}
+        skip = {*self.joining.values(), *later}
         mine = [page for page in self.queue if not page.is_omitted and page not in skip]
         kernels = [page for page in found if not page.is_omitted and page not in skip]
         if {*mine} <= {*kernels}:  # else a call that runs may be why a page has left
-            self._count(mine != kernels)
+            self._count(mine != kernels, queue, later)
 
-    def _count(self, differs: bool) -> None:
-        """Counts a comparison, unless something runs that may have changed the queue in a way that isn't emitted yet."""
+    def _count(self, differs: bool, queue: list[int], later: AbstractSet[Page]) -> None:
+        """Counts a comparison, unless what runs may have changed the queue. `later`: pages whose places a copy doesn't show."""
         if not any(call.kind is Kind.COLLAPSED or any(self.reaches(call, page) for each in list_removals(call)
                                                       for page in self.pages_between(call.space, each.start, each.end))
                    for call in self.pending.values()):
             self.tallies[Count.QUEUES_COMPARED] += 1
-            is_long = len(self.queue) > QUEUE_MOST  # few copies show in which order tasks have queued its pages
-            self.tallies[Count.LONG_COMPARED] += is_long
-            self.tallies[Doubt.QUEUES if self.is_doubted or is_long else Count.QUEUES_DIFFER] += differs
+            self.tallies[Count.LONG_COMPARED] += len(self.queue) > QUEUE_MOST
+            self.tallies[Doubt.QUEUES if self.is_doubted else Count.QUEUES_DIFFER] += differs
             if not differs:
                 self.end_doubt()
-                joining = {*self.joining.values()}
-                for page in self.queue:
-                    if page not in joining:
-                        page.join = None  # its place is known
+                shown = {*takewhile(lambda folio: self.at.get(folio) not in later, queue)} - {page.folio for page in self.joining.values()}
+                known = [page for page in takewhile(lambda page: page not in later, self.queue) if page.folio in shown]
+                for page in known:
+                    page.join = None
+                self.lines.more = LINES * (len(self.queue) - len(known))
 
     def _is_journal_queue(self, queue: list[int]) -> bool:
         """Returns whether a copy equals the journal's queue and nothing runs that it could show: the usual case, and quick."""
-        if self.scans or self.joining or len(queue) != len(self.queue):
-            return False
-        same = [page.folio for page in self.queue] == queue and [*map(self.at.get, queue)] == [*self.queue]
-        return same and all(call.kind is not Kind.COLLAPSED for call in self.pending.values())
+        runs = self.scans or self.joining or any(call.kind is Kind.COLLAPSED for call in self.pending.values())
+        return not runs and len(queue) == len(self.queue) and [*map(self.at.get, queue)] == [*self.queue]
 
     def emit_early_joins(self, queue: list[int]) -> None:
-        """Emits events of pages that are in the kernel's queue but not in ours: collapses and calls that still run, and
-        processes that are ending."""
+        """Emits events of pages that are in the kernel's queue, not in ours: of collapses and calls that run, of processes that end."""
         own_queue = {page.folio for page in self.queue}
         made = {call.values[4]: key for key, call in self.pending.items() if call.kind is Kind.COLLAPSED}
         for folio in [folio for folio in queue if folio not in own_queue]:
             if folio in made and made[folio] in self.pending:
                 self.apply(self.pending.pop(made[folio]), queue)
                 continue
-            page = self.at.get(folio)
+            page = self.page_at(folio)
             if page and not page.is_taken and page.born <= self.now:
                 self.emit_join(page, queue)
                 if page not in self.queue and page.is_live:
@@ -105,7 +106,7 @@ class QueueMatcher(MappingEvents):
             self.dequeue(page)
         elif not running:
             why = Omission.SPLIT_BY_MIGRATION if page.freed_frames else Omission.UNSEEN_COLLAPSE
-            self.omit(page, Omission.UNSEEN_SCAN if self.is_missing else why)
+            self.omit(page, Omission.UNSEEN_SCAN if self.tallies[Count.SCANS_MISSING] else why)
             self.dequeue(page)
 
     def move_to_end(self, later: set[Page]) -> None:

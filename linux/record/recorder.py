@@ -121,8 +121,7 @@ class Recording:
 
 
 class Taker:
-    """Takes the records of all queues, until they take so many bytes on disk (`is_full`). `look`: yields records of what pages contain;
-    it is called so often."""
+    """Takes the records of all queues, until they fill so many bytes on disk (`is_full`), and calls `look` so often for more."""
 
     def __init__(self, tracks: Sequence[Track], most: int, look: Callable[[], Iterable[bytes]], every: float | None) -> None:
         self._tracks, self._most, self._look = tracks, most, look

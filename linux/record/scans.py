@@ -19,8 +19,7 @@ BATCH = 128  # pages that a scan takes at most at a time
 
 
 def batches_of(total: int, freeable: int) -> Iterator[tuple[int, int]]:
-    """Yields the batches of one scan, as (first, count): so many pages of the queue as the shrinkers' core asks for at
-    a time (mm/shrinker.c: do_shrink_slab)."""
+    """Yields the batches of one scan, as (first, count): pages of the queue, as the core asks for (mm/shrinker.c: do_shrink_slab)."""
     first = 0
     while total >= min(freeable, BATCH) > 0:
         count = min(BATCH, total)
@@ -31,12 +30,6 @@ def batches_of(total: int, freeable: int) -> Iterator[tuple[int, int]]:
 def places_of(pages: Iterable[Page | None]) -> dict[Page, int]:
     """Returns where pages are in a sequence."""
     return {page: at for at, page in enumerate(pages) if page}
-
-
-def list_members(queue: Queue, pages: Iterable[Page]) -> list[Page]:
-    """Returns those of some pages that are in a queue, in its order; looks no further than their last."""
-    members = {page for page in pages if page in queue}
-    return [*islice((page for page in queue if page in members), len(members))]
 
 
 @dataclass(eq=False)
@@ -55,7 +48,7 @@ class ScanEvents(QueueMatcher):
             self.begin_doubt(Doubt.OVERLAP)
         joining = [page for page in self.joining.values() if page.folio not in record.queue]
         batches = [*batches_of(*record.values[:2])]
-        pages = [page if page and page.born <= record.time else None for page in map(self.at.get, record.queue)]
+        pages = [page if page and page.born <= record.time else None for page in map(self.page_at, record.queue)]
         self.scans[record.task] = Scan(record, pages, joining, batches, sum(count for _, count in batches), self.changes)
 
     def handle_scanned(self, record: Record, observed: list[int] | None = None) -> None:
@@ -76,7 +69,6 @@ class ScanEvents(QueueMatcher):
         if queue is None:
             self.tallies[Count.SCANS_MISSING] += 1
             self.begin_doubt(Doubt.MISSING)
-            self.is_missing = True
             for page in scan.taken:
                 page.is_taken = False
                 self.omit(page, Omission.UNSEEN_SCAN)
@@ -121,7 +113,7 @@ class ScanEvents(QueueMatcher):
 
     def _places_in(self, queue: list[int]) -> dict[Page, int]:
         """Returns the places of known pages in a copy of the queue, in its order."""
-        return places_of([self.at.get(folio) for folio in queue])
+        return places_of([self.page_at(folio) for folio in queue])
 
     def _batch(self, scan: Scan, first: int, count: int, found: Mapping[Page, int]) -> list[Page]:
         """Returns the pages of a batch: those that were oldest at the scan's start, and of the last batch all that the scan has split. If
@@ -220,8 +212,7 @@ class ScanEvents(QueueMatcher):
                 scan.pages.append(page)
 
     def _leave_to_others(self, scan: Scan, queue: list[int]) -> None:
-        """Takes pages from a scan that has ended which another one that runs has taken: they have left the queue, and this one has freed
-        nothing of them."""
+        """Takes pages from a scan that has ended which another has taken: they have left the queue, and this one freed nothing of them."""
         if not self.scans:
             return
         others = {page for other in self.scans.values() for page in other.pages[: other.reach]} - {*scan.split, *scan.taken}
@@ -265,7 +256,8 @@ class ScanEvents(QueueMatcher):
     def _order_by_journal(self, pages: list[Page]) -> list[Page]:
         """Returns the pages of a batch in the journal's order. If others are older there, though not in the kernel's queue, since the
         kernel has put pages back in reverse order (E), all pages of the queue are left out; if it isn't known which are, the older."""
-        own = list_members(self.journal_queue, pages)
+        members = {page for page in pages if page in self.journal_queue}
+        own = [*islice((page for page in self.journal_queue if page in members), len(members))]
         mine = [page for page in own if not page.is_omitted]
         if {*mine} != self._oldest(self.journal_queue, len(mine)):
             if {*mine} == self._oldest(self.queue, len(mine)):

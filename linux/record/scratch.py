@@ -18,8 +18,7 @@ SLACK = 5000  # lines beyond these that are kept before the oldest go to the fil
 
 
 class ScratchFile:
-    """Gone when it is closed. RunFailed, which names `what`, where it can't be made or written. Nothing is buffered, so that no
-    error comes late."""
+    """Gone when it is closed. RunFailed, which names `what`, where it can't be made or written. Nothing is buffered, no error late."""
 
     def __init__(self, what: str, folder: str = FOLDER) -> None:
         self._what = what
@@ -71,8 +70,7 @@ class ScratchFile:
 
 
 class JournalLine:
-    """The text of a page's event, with the recorder's number of the page, which differs from the journal's, and the time (ns)
-    of the record that showed it."""
+    """The text of a page's event, with the recorder's number of the page, not the journal's, and the time (ns) of what showed it."""
 
     __slots__ = ("page", "text", "time")
 
@@ -86,7 +84,7 @@ class JournalLines:
     def __init__(self) -> None:
         self.latest: list[JournalLine] = []
         self.final = 0  # how many lines went to the file
-        self.more = 0  # lines beyond WINDOW that can be reordered: as many as the queue has pages
+        self.more = 0  # lines beyond WINDOW that can be reordered: those of pages whose places in the queue aren't known
         self._file = ScratchFile("the journal")
 
     def add(self, line: JournalLine) -> None:

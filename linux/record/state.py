@@ -1,5 +1,5 @@
 """The state of a journal while it is built: pages, and the address spaces that map them, the queue, what runs, and the journal so
-far. Of a freed page one byte remains."""
+far. Of a page at rest a number is kept, of a freed one a byte."""
 
 from __future__ import annotations
 
@@ -7,11 +7,12 @@ import functools
 import heapq
 import itertools
 import operator
+import struct
 from array import array
 from bisect import bisect_left, bisect_right
 from collections import Counter as Tallies
 from dataclasses import dataclass, field
-from typing import Dict, Iterable, Iterator, Sequence
+from typing import Callable, Dict, Iterable, Iterator, Sequence, Union
 
 from ..common.files import BASE, PMD_ORDER
 from ..common.journal import FILLING, MOST_CALLERS, SMALL_BLOCKS, SMALL_CALLERS, SMALL_NODES, Event
@@ -21,7 +22,10 @@ from .records import Kind, Record
 from .scratch import JournalLine, JournalLines
 
 FOREVER = 1 << 64
+LINES = 3  # of a page until it joins the queue: alloc, splitpmd, unmapsub
 SPARE_PLACES = 64  # of an address space's former mappings
+MOST_AWAKE = 4096  # pages that aren't looked at whether they can rest
+PACKED = struct.Struct("<I?4Q")  # a page at rest: number, is_freed, born, last_change, address, address space
 SPARE_BLOCKS = 8  # of a small node, beyond 5/4 of the pages that lived at once: lines are reordered
 
 
@@ -48,9 +52,9 @@ class Page:
     `join`: the event by which it joined the queue."""
 
     __slots__ = (
-        "number", "folio", "subpages", "every", "held", "born", "maps", "pins", "is_taken", "is_partly_mapped", "partly_since", "is_live",
-        "split", "is_omitted", "is_freed", "freed_frames", "written", "is_seen", "is_tried", "has_joined", "is_perhaps_taken", "missed",
-        "entered", "last_change", "join")
+        "number", "folio", "subpages", "every", "held", "born", "maps", "is_live", "is_omitted", "is_freed", "last_change",
+        "pins", "is_taken", "is_partly_mapped", "partly_since", "split", "freed_frames", "written", "is_seen", "is_tried", "has_joined",
+        "is_perhaps_taken", "missed", "entered", "join")  # of a page at rest these are 0 from `pins` on
 
     def __init__(self, number: int, folio: int, subpages: int, every: int, born: int) -> None:
         self.number, self.folio, self.subpages, self.every, self.held, self.born = number, folio, subpages, every, every, born
@@ -61,46 +65,62 @@ class Page:
         self.is_live = True
         self.join: JournalLine | None = None
 
-    def mapping_in(self, space: int) -> Mapping | None:
-        """Returns an address space's mapping, if it has one."""
-        return next((mapping for mapping in self.maps if mapping.space == space), None)
+    def mapping_in(self, space: int, base: int | None = None) -> Mapping | None:
+        """Returns an address space's mapping, if it has one, and if that is at a place."""
+        return next((mapping for mapping in self.maps if mapping.space == space and base in (None, mapping.base)), None)
 
     def used_subpages(self) -> int:
         """Returns the subpages that are mapped."""
         return union_of(mapping.bits for mapping in self.maps)
 
+    def first_mapping(self) -> Mapping | None:
+        """Returns the only mapping of a page that is as it was made, except that calls have reached it or its free was recorded."""
+        is_so = len(self.maps) == 1 and self.maps[0].whole and self.maps[0].since == self.born and not any(_changes(self))
+        return self.maps[0] if is_so else None
+
     def counts(self) -> tuple[int, int, int]:
-        """Returns what the kernel counts: mappings by PMD entries, all mappings, subpages that PTEs map. A page below
-        their size is mapped by PTEs alone."""
+        """Returns what the kernel counts: mappings by PMD entries (which only pages of their size have), all, subpages that PTEs map."""
         has_pmd = self.subpages == 1 << PMD_ORDER
         parts = [mapping.bits for mapping in self.maps if not (has_pmd and mapping.whole)]
         whole = len(self.maps) - len(parts)
         return whole, whole + sum(map(size, parts)), size(union_of(parts))
 
 
+_changes = operator.attrgetter(*Page.__slots__[Page.__slots__.index("pins") :])
+
+
 class Space:
-    """An address space's mappings, by their places; some are former ones. `count`: those that aren't."""
+    """An address space's mappings, by their places: pages, or the folios of those at rest, which `wake` returns as pages; some are
+    former ones, or 0. `count`: those that aren't."""
 
-    __slots__ = ("number", "bases", "pages", "count")
+    __slots__ = ("number", "bases", "pages", "count", "_wake")
 
-    def __init__(self, number: int) -> None:
-        self.number, self.count = number, 0
-        self.bases, self.pages = array("Q"), list[Page]()
+    def __init__(self, number: int, wake: Callable[[int], Page | None]) -> None:
+        self.number, self.count, self._wake = number, 0, wake
+        self.bases, self.pages = array("Q"), list[Union[Page, int]]()
 
     def add(self, page: Page, base: int) -> None:
         """Adds a place of a page."""
         at = bisect_right(self.bases, base)
-        self.bases.insert(at, base)
-        self.pages.insert(at, page)
+        if page not in self.pages[bisect_left(self.bases, base) : at]:
+            self.bases.insert(at, base)
+            self.pages.insert(at, page)
         if len(self.pages) > 2 * self.count + SPARE_PLACES:
-            mappings = self.between()
-            self.bases, self.pages = array("Q", (mapping.base for _, mapping in mappings)), [page for page, _ in mappings]
+            kept = [each if isinstance(each, int) else each.mapping_in(self.number, base) for each, base in zip(self.pages, self.bases)]
+            self.bases, self.pages = array("Q", itertools.compress(self.bases, kept)), [*itertools.compress(self.pages, kept)]
 
-    def between(self, start: int = 0, end: int = 1 << 64) -> list[tuple[Page, Mapping]]:
-        """Returns the pages that live and are mapped from addresses in a range on, with their mappings, by these."""
+    def replace(self, base: int, former: Page | int, new: Page | int) -> None:
+        """Replaces a page that begins to rest by its folio, or back, or one that isn't mapped there any more by 0."""
+        self.pages[self.pages.index(former, bisect_left(self.bases, base))] = new
+
+    def between(self, start: int = 0, end: int = 1 << 64) -> Iterator[tuple[Page, Mapping]]:
+        """Yields the pages that live and are mapped from addresses in a range on, with their mappings, by these."""
         near = slice(bisect_left(self.bases, max(start, 0)), bisect_left(self.bases, end))
-        found = ((page, base, page.mapping_in(self.number)) for page, base in zip(self.pages[near], self.bases[near]) if page.is_live)
-        return [*{page: (page, mapping) for page, base, mapping in found if mapping and mapping.base == base}.values()]
+        for each, base in zip(self.pages[near], self.bases[near]):
+            page = self._wake(each) if isinstance(each, int) else each
+            mapping = page and page.mapping_in(self.number, base)
+            if page and mapping:
+                yield page, mapping
 
 
 Queue = Dict[Page, None]
@@ -138,7 +158,9 @@ class State:
     omitted: bytearray = field(default_factory=bytearray)  # of each page, whether it is left out
     never_mapped: int = 0  # pages
     left_out: int = 0  # pages, for other reasons
-    at: dict[int, Page] = field(default_factory=dict)  # the pages that live, by folio
+    at: dict[int, Page] = field(default_factory=dict)  # the pages that live, by folio, except those at rest: page_at has all
+    resting: dict[int, int] = field(default_factory=dict)  # those at rest, packed
+    awake: set[Page] = field(default_factory=set)  # that were made, or at rest, since it was looked whether they can rest
     queue: Queue = field(default_factory=dict)  # the kernel's
     journal_queue: Queue = field(default_factory=dict)  # the journal's, which differs by E
     joining: dict[int, Page] = field(default_factory=dict)  # pages that join the queue before their task's next record
@@ -146,7 +168,6 @@ class State:
     ends: dict[int, Record] = field(default_factory=dict)  # the next end of each address space that has pages
     pending: dict[tuple[int, Kind], Record] = field(default_factory=dict)  # calls, collapses, copies that run, by task
     scans: dict[int, Scan] = field(default_factory=dict)  # those that run, by task
-    is_missing: bool = False  # a scan wasn't followed
     changes: int = 0  # of the queue, but for those by scans
     now: int = 0  # the time of the current record
     task: int = 0  # its task ..
@@ -173,11 +194,6 @@ class State:
         return max(itertools.accumulate(changes), default=1)
 
     @property
-    def fills(self) -> bool:
-        """Whether an event is one that only version 3 of a journal has."""
-        return any(self.event_counts[word] for word in FILLING)
-
-    @property
     def pages(self) -> int:
         """How many pages were mapped."""
         return len(self.omitted) - self.never_mapped
@@ -191,8 +207,7 @@ class State:
         return (text for _, text in self.timed_texts())
 
     def times(self) -> Iterator[int]:
-        """Returns the time (ns) of each line. An event is shown by a later record at times, and lines are reordered: none is before
-        the line above it."""
+        """Returns the time (ns) of each line; none is before the line above it: events are shown by later records, and lines reordered."""
         return itertools.accumulate((time for time, _ in self.timed_texts()), max)
 
     def begin_doubt(self, why: Doubt) -> None:
@@ -249,7 +264,8 @@ class State:
 
     def new_page(self, task: int, space: int, folio: int, address: int) -> Page:
         """Adds a page that an address space maps whole."""
-        page = self.at[folio] = Page(len(self.omitted), folio, 1 << self.order, self._every, self.now)
+        page = Page(len(self.omitted), folio, 1 << self.order, self._every, self.now)
+        self.put_at(page, folio)
         self.omitted.append(False)
         self.add_mapping(page, Mapping(space, address & -(BASE << self.order), True, self._every, self.now))
         self._live += 1
@@ -261,7 +277,7 @@ class State:
 
     def add_mapping(self, page: Page, mapping: Mapping) -> None:
         """Adds an address space's mapping of a page, or one that has moved."""
-        space = self.spaces.setdefault(mapping.space, Space(mapping.space))
+        space = self.spaces.setdefault(mapping.space, Space(mapping.space, self.page_at))
         mapping.space = space.number  # one object for all
         if mapping not in page.maps:
             self.drop_mapping(page, mapping.space)
@@ -271,22 +287,53 @@ class State:
 
     def drop_mapping(self, page: Page, space: int) -> None:
         """Forgets an address space's mapping of a page, if it has one."""
-        left = tuple(mapping for mapping in page.maps if mapping.space != space)
-        if len(left) < len(page.maps) and page.is_live and space in self.spaces:
+        mapping = page.mapping_in(space)
+        if mapping and space in self.spaces:
             self.spaces[space].count -= 1
-        page.maps = left
+            self.spaces[space].replace(mapping.base, page, 0)
+        page.maps = tuple(each for each in page.maps if each is not mapping)
 
-    def pages_between(self, space: int, start: int, end: int) -> list[Page]:
-        """Returns the pages that an address space maps in a range of addresses, by their addresses."""
+    def pages_between(self, space: int, start: int, end: int) -> Iterator[Page]:
+        """Yields the pages that an address space maps in a range of addresses, by their addresses."""
         known = self.spaces.get(space)
-        return [page for page, _ in known.between(start - (BASE << self.order) + 1, end)] if known else []
+        return (page for page, _ in (known.between(start - (BASE << self.order) + 1, end) if known else ()))
+
+    def page_at(self, folio: int) -> Page | None:
+        """Returns the page that lives at a folio, if there is one."""
+        packed = self.resting.pop(folio, None)
+        if packed is not None:
+            number, is_freed, born, changed, base, space = PACKED.unpack(packed.to_bytes(PACKED.size, "little"))
+            page = self.at[folio] = Page(number, folio, 1 << self.order, self._every, born)
+            page.is_freed, page.last_change, page.is_omitted = is_freed, changed, bool(self.omitted[number])
+            page.maps = (Mapping(self.spaces[space].number, base, True, self._every, born),)
+            self.spaces[space].replace(base, folio, page)
+            self.awake.add(page)
+        return self.at.get(folio)
+
+    def put_at(self, page: Page, folio: int) -> None:
+        """Gives a page its folio. One that had it and whose end isn't recorded yet isn't found there any more."""
+        self.page_at(folio)
+        page.folio, self.at[folio] = folio, page
+        self.awake.add(page)
+
+    def rest_pages(self, used: Iterable[Page]) -> None:
+        """Packs the pages at rest, except some that are used, and those of scans."""
+        used = {*used, *self.joining.values()}.union(*([*filter(None, scan.pages), *scan.taken] for scan in self.scans.values()))
+        awake, self.awake = self.awake - used, self.awake & used
+        for page in awake:
+            first = page.first_mapping()
+            if first and self.at.get(page.folio) is page and first.space in self.spaces:
+                packed = PACKED.pack(page.number, page.is_freed, page.born, page.last_change, first.base, first.space)
+                self.resting[page.folio] = int.from_bytes(packed, "little")  # less than bytes need
+                self.spaces[first.space].replace(first.base, page, page.folio)
+                del self.at[page.folio]
 
     def enqueue(self, page: Page) -> None:
         """Adds a page to the queue, by the event emitted last."""
         self.changes += 1
         page.entered = self.now
         self.queue[page] = self.journal_queue[page] = None
-        self.lines.more = len(self.queue)
+        self.lines.more = LINES * min(self.lines.more // LINES + 1, len(self.queue))
         page.join = self.lines.latest[-1] if self.lines.latest else None
 
     def dequeue(self, page: Page) -> None:
@@ -312,13 +359,13 @@ class State:
         """Removes a page that was freed."""
         self.changes += page in self.queue
         page.is_live, page.held = False, 0
+        self.awake.discard(page)
         self._live -= 1
         if self.at.get(page.folio) is page:  # another page may have the folio already
             del self.at[page.folio]
         self.dequeue(page)
         for mapping in page.maps:
-            if mapping.space in self.spaces:
-                self.spaces[mapping.space].count -= 1
+            self.drop_mapping(page, mapping.space)
 
     def hold(self, task: int, page: Page) -> None:
         """Emits a pin of a page that something holds, unless it has one."""
@@ -348,8 +395,7 @@ class State:
         return bool(page.maps) and len(self.ending_spaces(page)) == len(page.maps)
 
     def place_of_join(self, page: Page) -> int:
-        """Returns where among the latest lines the event is by which a page joined the queue; -1: nowhere. A page whose
-        event is too old is left out."""
+        """Returns where among the latest lines a page joined the queue; -1: nowhere. A page whose event is too old is left out."""
         place = self.lines.find(page.join)
         if page.join and place < 0 and self.lines.final:
             self.omit(page, Omission.TOO_OLD)
@@ -360,7 +406,7 @@ class State:
 def journal_lines(nodes: Sequence[State]) -> Iterator[str]:
     """Yields the lines of a journal, in the lowest version that has all of its words and numbers."""
     version = 2 if any(node.order != PMD_ORDER for node in nodes) else 1
-    if any(node.fills or node.underused is not None for node in nodes):
+    if any(node.underused is not None or any(map(node.event_counts.get, FILLING)) for node in nodes):
         version = 3
     if len(nodes) > SMALL_NODES or any(node.blocks > SMALL_BLOCKS or node.callers > SMALL_CALLERS for node in nodes):
         version = 4

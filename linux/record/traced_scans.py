@@ -23,8 +23,7 @@ AHEAD = 512  # records that are looked at before one is taken
 
 
 def with_bounds(records: Iterable[Record]) -> Iterator[tuple[Record, int]]:
-    """Yields records, each with a time (ns) by which it had its place in the ring: its own time is later where a processor was taken away
-    meanwhile, but no record behind it has an earlier place."""
+    """Yields records, each with a time (ns) by which it had its place in the ring: the least of its own and those of the next ones."""
     ahead: deque[Record] = deque()
     least: deque[int] = deque()  # of the times ahead, those that no later record's time is below
     for record in records:
@@ -45,21 +44,13 @@ def _take_first(ahead: deque[Record], least: deque[int]) -> Iterator[tuple[Recor
         least.popleft()
 
 
-@dataclass(frozen=True)
-class Part:
-    """A part of a batch that has begun, and when its tries are over. Its key is its number before the task's."""
-
-    batch: Batch
-    end: int
-
-
 @dataclass(eq=False)
 class TracedScans(ScanEvents):
     """Emits events of observed batches; where none is observed, those of scans as their copies show them."""
 
     batches: deque[Batch] | None = None  # that haven't begun; None: functions weren't traced
     _asked: dict[int, Iterator[tuple[int, int]]] = field(default_factory=dict)  # by tasks that scan, what they are asked for
-    _held: dict[int, Part] = field(default_factory=dict)  # parts of batches that have begun, by their keys
+    _held: dict[int, tuple[Batch, int]] = field(default_factory=dict)  # parts of batches that have begun, and when their tries are over
     _back: list[Page] = field(default_factory=list)  # pages put back since a copy was last compared
 
     def handle_scan(self, record: Record) -> None:
@@ -85,7 +76,7 @@ class TracedScans(ScanEvents):
         upcoming = [*islice(self.batches or (), NEXT)] if queue is not None else []
         members = {*self.queue} - {*self.joining.values()} if upcoming else set()
         for batch in upcoming:
-            tried = {folio for folio in batch.tries if self.at.get(folio) in members}
+            tried = {folio for folio in batch.tries if self.page_at(folio) in members}
             if batch.asked < self.now + WALK and tried and tried.isdisjoint(queue or ()):
                 return
         if queue is not None and self._back and not self.scans:
@@ -115,13 +106,12 @@ class TracedScans(ScanEvents):
         return 0 if oldest in batch.tries else next((at + 1 for at, each in enumerate(others) if oldest in each.tries), 0)
 
     def _begin_batch(self, batch: Batch) -> None:
-        """Emits what a batch has taken: the oldest pages, and each page that it tried. A partly mapped page is tried, unless another task
-        holds its lock."""
+        """Emits what a batch has taken: the oldest pages, and each that it tried: those partly mapped that no other task has locked."""
         self.now, self.task = batch.begin, batch.task
-        for key in [key for key, part in self._held.items() if part.end <= batch.begin]:
+        for key in [key for key, (_, end) in self._held.items() if end <= batch.begin]:
             self._end_part(key)
         _, count = next(self._asked.get(batch.task, iter(())), (0, BATCH))
-        tried = [page for page in map(self.at.get, batch.tries) if page]
+        tried = [page for page in map(self.page_at, batch.tries) if page]
         for page in reversed(tried):
             self._free_from_others(page)
             if page not in self.queue:
@@ -150,7 +140,7 @@ class TracedScans(ScanEvents):
         """Ends a batch that holds a page which another has taken: it has put its pages back, and its end is recorded later. If it puts them
         back singly, and this one later, a call has queued the page meanwhile."""
         for key, scan in [*self.scans.items()]:
-            if page in scan.taken and self._held[key].batch.puts_singly:
+            if page in scan.taken and self._held[key][0].puts_singly:
                 self.omit(page, Omission.REQUEUED)
                 scan.taken.remove(page)
                 page.is_taken = False
@@ -187,7 +177,7 @@ class TracedScans(ScanEvents):
             start = Record(Kind.BATCH, batch.begin, key, 0, (0,) * 9, None)
             batches, kernels = [(0, len(part))] if is_ordered else [], [page for page in pages if page in part]
             self.scans[key] = Scan(start, [*kernels], [], batches, 0, self.changes, taken=self._take(key, part))
-            self._held[key] = Part(batch, end)
+            self._held[key] = batch, end
 
     def end_batch(self, task: int) -> None:
         """Emits the tries and put-backs of a task's batch that are left."""
@@ -196,12 +186,12 @@ class TracedScans(ScanEvents):
 
     def _end_part(self, key: int) -> None:
         """Emits the tries and put-backs of a part of a batch."""
-        batch, scan = self._held.pop(key).batch, self.scans.pop(key)
+        (batch, _), scan = self._held.pop(key), self.scans.pop(key)
         self.emitted_until = max(self.emitted_until, min(batch.end, self.now))
         self.tallies[Count.SCANS] += key == batch.task
         self._emit_frees(scan.pages, [])
         stays = [page for page in scan.pages if page and page.is_live and self._stays(page, batch)][::-1]
-        order = [page for page in map(self.at.get, batch.tries) if page in stays]
+        order = [page for page in map(self.page_at, batch.tries) if page in stays]
         if len(order) > 1 and order == [page for page in stays if page in order]:
             self.tallies[Count.REVERSED] += 1
         for page in scan.taken:

@@ -204,8 +204,7 @@ def join_lists(lists: Lists) -> list[int]:
 
 
 def is_turned(queue: list[int], observed: list[int] | None) -> bool | None:
-    """Returns whether the kernel's queue has the pages that stayed in reverse order, which an odd number of passes leaves; None
-    where the queue can't show it."""
+    """Returns whether the kernel's queue has the pages that stayed in reverse order, as after an odd number of passes; None: not known."""
     if queue == queue[::-1] or observed not in (queue, queue[::-1]):
         return None
     return observed != queue

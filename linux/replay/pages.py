@@ -53,8 +53,7 @@ class KernelPage:
 
 
 class KernelPages:
-    """One script's pages on a bench, filled with the byte `fill`. `drops_zeros`: this kernel gives mapped zero-filled subpages back
-    at any split (B)."""
+    """One script's pages on a bench, filled with the byte `fill`. `drops_zeros`: any split gives mapped zero-filled subpages back (B)."""
 
     def __init__(self, bench: Bench, options: Options, fill: int) -> None:
         self._bench, self._fill = bench, fill

@@ -18,7 +18,7 @@ from .pages import DATA, KernelPages
 from .states import NodeState
 
 TRIES = 3  # a difference counts where each run of the script has one
-LAST_WINDOWS = 1.0  # seconds in which the counters are watched before a difference of theirs alone counts
+LAST_WINDOWS = 20  # in which the counters are watched before a difference of theirs alone counts
 
 
 class Result(enum.Enum):
@@ -126,7 +126,7 @@ def judge_tries(differences: Sequence[Difference], watch: CounterWatch) -> Outco
     differs = Outcome(Result.DIFFERS, "", str(last), last.kind, last.command)
     if not by_counter:
         return differs
-    if watch.moved or not watch.watch_until(LAST_WINDOWS):
+    if watch.moved or not all(watch.watch_once() for _ in range(LAST_WINDOWS)):
         reason = f"other programs move {', '.join(sorted(watch.moved))}"
     elif len({(each.kind, each.command) for each in by_counter}) > 1:
         reason = "each try differs in another counter or at another command"

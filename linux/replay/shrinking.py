@@ -85,8 +85,7 @@ def number_at(command: Command, at: int) -> int:
 
 
 def drop(script: Script, gone: set[int]) -> Script:
-    """Returns a script without some commands. A page whose `alloc` goes takes its commands along, and the numbers of later pages
-    of its node close up."""
+    """Returns a script without some commands, those of pages whose `alloc` goes too; the numbers of later pages of a node close up."""
     kept: list[Command] = []
     new_numbers: dict[int, list[int]] = {}  # by node; -1: the page is gone
     for at, command in enumerate(script.commands()):

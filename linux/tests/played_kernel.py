@@ -144,7 +144,7 @@ class PlayedKernel:
         if not page.is_listed:
             page.is_listed = True
             self.queue += [page, page] if self._has_bug("twice") else [page]
-            if self._has_bug("first") and len(self.queue) > 1:
+            if len(self.queue) > 1 and self._has_bug("first", 1):
                 self.queue.insert(0, self.queue.pop())
             if self._has_bug("foreign"):
                 self.queue.append(PlayedPage(FOREIGN + PAGE_SIZE * SUBPAGES * next(self._foreign), 0, EVERY, 1, 1, True, True))

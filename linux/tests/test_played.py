@@ -9,7 +9,7 @@ from typing import Sequence
 from ..common.program import Program
 from ..record.reasons import Count
 from ..record.state import journal_text
-from .played_kernel import PlayedKernel, PlayedPage
+from .played_kernel import PlayedKernel
 from .written_records import PLAIN, JournalCase, WrittenRecords, store_records, words_of
 
 THRESHOLD, THREADS, STEPS, SEED = 100, 4, 400, 3
@@ -62,14 +62,15 @@ class OverlapTest(JournalCase):
         records.records[-1].time = records.records[-8].time  # the walk began before page 1 was freed
         self.check(records, "unmapsub 3 0 8 queued -")
 
-
-class WrongKernel(PlayedKernel):
-    """One whose pages join the queue at its head."""
-
-    def _join(self, page: PlayedPage) -> None:
-        if not page.is_listed:
-            page.is_listed = True
-            self.queue.insert(0, page)
+    def test_pages_join_while_a_copy_is_made(self) -> None:
+        """It shows nothing of the places of pages that were made meanwhile, and may lack those that joined."""
+        for steps, shown, later in (("page 1; o:page 2; drop 1 0 8; o:drop 2 0 8", "0 2 1", "0 2 1"), ("drop 3 0 8", "0", "0 3"),
+                                    ("page 1; o:drop 3 0 8; drop 1 0 8", "0 1 3", "0 1 3")):
+            records = WrittenRecords("page 0; page 3; drop 0 0 8 > 0")
+            begun = len(records.records)
+            records.run(f"{steps}; o:look > {shown}").records[-1].time = begun
+            self.check(records.run(f"look > {later}"), None)
+            self.assertTrue(self.build(store_records(records.run(f"look > {later[::-1]}").records)).tallies[Count.QUEUES_DIFFER])
 
 
 class PlayedTest(JournalCase):
@@ -92,8 +93,8 @@ class PlayedTest(JournalCase):
                 self.assertTrue(tallies[law])
 
     def test_a_wrong_kernel_is_found(self) -> None:
-        for seed in range(1, 5):
-            builder = self.build(store_records(WrongKernel(seed, False, THRESHOLD, THREADS).play(STEPS)), THRESHOLD)
+        for seed in (1, 2, 4, 6):
+            builder = self.build(store_records(PlayedKernel(seed, False, THRESHOLD, THREADS, "first").play(STEPS)), THRESHOLD)
             is_legal = Program(PLAIN).check(journal_text([builder])).legal
             self.assertTrue(builder.tallies[Count.QUEUES_DIFFER] or not is_legal, seed)
 

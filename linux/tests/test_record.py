@@ -21,18 +21,17 @@ from .written_records import JournalCase, WrittenRecords, folio_of, pack_parts, 
 
 PARTLY = "alloc 0; splitpmd 0; unmapsub 0 0 8 queued -"  # of a page that is divided
 GONE = "alloc 0; unmapwhole 0 freed 0-511"
-GROWTH = 12 << 10  # KiB that a builder and a store may take, however many records there are
+GROWTH, LIVING = 12 << 10, 200 / 1024  # KiB that a builder and a store may take, however many records there are, and for each page
 LONG = """
-import resource, sys
+import re, sys
 sys.path.insert(0, sys.argv[1])
 from linux.record.journal_builder import JournalBuilder
 from linux.record.records import Store
 from linux.tests.written_records import WrittenRecords, pack_record
-def resident():
-    return resource.getrusage(resource.RUSAGE_SELF).ru_maxrss
+def resident(): return int(re.search("VmHWM: *\\t *([0-9]+)", open("/proc/self/status").read())[1])
 store, builder, before = Store(), JournalBuilder(9, None), resident()
 for number in range(int(sys.argv[2])):
-    for record in WrittenRecords("page 0; drop 0 0 8 > 0; d:free 5 0 8; unmap 0 > -").records:
+    for record in WrittenRecords(sys.argv[3].format(number)).records:
         record.time += 1000 * number
         store.add(pack_record(record))
 store.link()
@@ -200,10 +199,11 @@ class LinesTest(JournalCase):
 
 
 class MemoryTest(JournalCase):
-    def test_many_records_in_little_memory(self) -> None:
-        pages = 10000
-        words = [sys.executable, "-c", LONG, str(ROOT), str(pages)]
-        done = subprocess.run(words, capture_output=True, text=True, check=True)
-        records, count, left_out, growth = map(int, done.stdout.split())
-        self.assertEqual((records, count, left_out), (15 * pages, 4 * pages, 0))
-        self.assertLess(growth, GROWTH)
+    def test_many_records_and_pages_that_live_in_little_memory(self) -> None:
+        dropped = "page 0; drop 0 0 8 > 0; d:free 5 0 8; unmap 0 > -"
+        for steps, pages, each, events, most in ((dropped, 10000, 15, 4, GROWTH), ("page {}", 30000, 2, 1, GROWTH + LIVING * 30000)):
+            words = [sys.executable, "-c", LONG, str(ROOT), str(pages), steps]
+            done = subprocess.run(words, capture_output=True, text=True, check=True)
+            records, count, left_out, growth = map(int, done.stdout.split())
+            self.assertEqual((records, count, left_out), (each * pages, events * pages, 0))
+            self.assertLess(growth, most)

@@ -60,8 +60,7 @@ def standard_library() -> str:
 
 
 class GuestFiles:
-    """Writes the archive. Paths are absolute; the folders that a path needs are made before it. A path that is in the archive already
-    stays as it is."""
+    """Writes the archive. Paths are absolute; the folders that one needs are made before it. What is in the archive already stays."""
 
     def __init__(self, out: BinaryIO) -> None:
         self._out = out

@@ -54,8 +54,7 @@ class Policy:
 
 
 class PolicySums(ctypes.Structure):
-    """What a policy gives on a node (struct sums of policies.c). Frames are base pages; `held` is their sum by seconds (events, where
-    times aren't known)."""
+    """What a policy gives on a node (struct sums of policies.c). Frames are base pages; `held`: their sum by seconds, or by events."""
 
     _fields_ = [
         *((name, ctypes.c_uint64) for name in ("scans", "split", "failed", "back", "peak")),

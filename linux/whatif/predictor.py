@@ -184,8 +184,7 @@ class Predictor:
         return {folio.frame: sets[plan] for folio, plan in pairs if self.frames_back(threshold, plan) is not None}
 
     def moved_rows(self, thresholds: Sequence[int]) -> dict[int, tuple[int, int]]:
-        """Returns for each threshold by how many split pages and frames a row differs at most between the two readings of the pages
-        that changed."""
+        """Returns for each threshold by how many split pages and frames a row differs at most between both readings of changed pages."""
         out = {}
         for threshold in thresholds:
             back = [[self.frames_back(threshold, number) for number in pair] for pair in self._changed]

@@ -81,8 +81,7 @@ def given_back(folio: Folio, max_ptes_none: int, locked_are_tried: bool = False)
 
 
 def result_of(snapshot: Snapshot, threshold: int, returned: dict[int, int], moved: set[int], added: dict[Statistic, int]) -> TrialResult:
-    """Returns what a trial found, given the frames that came back by page, the pages that were moved, and what was added to the
-    kernel's counters."""
+    """Returns what a trial found, given the frames that came back by page, the pages moved, and what was added to the counters."""
     predictor = Predictor(snapshot)
     folios, predicted = {folio.frame: folio for folio in predictor.folios}, predictor.frames_given(threshold)
     readings = {frame: given_back(folio, threshold, snapshot.locked_are_tried) for frame, folio in folios.items()}
