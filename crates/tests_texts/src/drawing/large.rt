@@ -24,9 +24,9 @@ const NODE_255: &[u8] = b"<g transform=\"translate(5370 79850)\">\n\
 <text class=\"ink\" x=\"0\" y=\"0\">node 255</text>\n";
 
 // The words about which nodes are drawn.
-const ALL_9: &[u8] = b"The first 9 of 9 nodes, ";
+const ALL_9: &[u8] = b"Nodes 0 to 8 of 9, ";
 
-const FIRST_256: &[u8] = b"The first 256 of 1,000 nodes, ";
+const FIRST_256: &[u8] = b"Nodes 0 to 255 of 1,000, ";
 
 // So many nodes, each with the events of the first run.
 fn equal_nodes(rt: &impl Abort, alloc: Global, count: u32) -> Vec<DrawnNode> {
