@@ -50,7 +50,7 @@ BY_EACH = ("tests/test_examples.py", "tests/test_rows.py", "tests/test_outside.p
 EXAMPLES = ("tests/run.py", "-p", "test_examples.py", "-k", "Examples")
 """Those of them that need no built program."""
 
-BY_ONE = ("tests/spoilt.py", "tests/test_wrong_programs.py")
+BY_ONE = ("tests/test_spoilt.py", "tests/test_wrong_programs.py")
 """The tests of a program that take longer, for one of them."""
 
 CEILINGS = ("bench/ceilings.py", "--kinds", "churn,counts,clash")
