@@ -164,7 +164,7 @@ fuzz: run
 
 memory: run
 	@cd crates/tests_spoilt && rt test
-	@python3 tests/memory.py $(PROGRAM) crates/tests_spoilt/out/tests_spoilt_tests:memory::
+	@GROWTHS=memory:: THPSPLIT=$(PROGRAM) python3 tests/run.py -p test_memory.py
 
 $(ARCHIVE):
 	@python3 prove.py thp_c lib

@@ -15,7 +15,7 @@ ROOT = Path(__file__).resolve().parent.parent
 
 BUILT = {
     "THPSPLIT": "crates/thpsplit/out/thpsplit", "THPCHECK": "crates/thpcheck/out/thpcheck", "THPDRAW": "crates/thpdraw/out/thpdraw",
-    "LIBTHP_C": "crates/thp_c/out/libthp_c.a",
+    "LIBTHP_C": "crates/thp_c/out/libthp_c.a", "TESTS_SPOILT": "crates/tests_spoilt/out/tests_spoilt_tests",
 }
 """What can be under test: the environment variable with its path, and where the tree builds it."""
 

@@ -50,7 +50,7 @@ BY_EACH = ("tests/test_examples.py", "tests/test_rows.py", "tests/test_outside.p
 EXAMPLES = ("tests/run.py", "-p", "test_examples.py", "-k", "Examples")
 """Those of them that need no built program."""
 
-BY_ONE = ("tests/test_spoilt.py", "tests/test_wrong_programs.py")
+BY_ONE = ("tests/test_spoilt.py", "tests/test_wrong_programs.py", "tests/test_memory.py")
 """The tests of a program that take longer, for one of them."""
 
 CEILINGS = ("bench/ceilings.py", "--kinds", "churn,counts,clash")
@@ -59,12 +59,6 @@ commands that do least, and with the greatest number of pages of a node."""
 
 ARCHIVE = "crates/thp_c/out/libthp_c.a"
 """Where the archive of the library for C is built: `rt ci` proves it, and builds nothing of it."""
-
-SPOILT = "crates/tests_spoilt/out/tests_spoilt_tests"
-"""Where `rt ci` leaves the tests with failing allocations."""
-
-REFUSED = "memory::node_growths::put_back_without_memory"
-"""The row that only a failing allocation can show. `make memory` has all of them."""
 
 COUNT = re.compile(r"(\d+) passed, (\d+) failed$")
 
@@ -207,8 +201,6 @@ def test_programs(gate: Gate, programs: list[str], began: float) -> None:
         for path in BY_ONE:
             gate.add_file(path, THPSPLIT=program)
         gate.add(Path(CEILINGS[0]).name, [sys.executable, *CEILINGS, program])
-        rows = [f"{path}:{REFUSED}" for path in made_since(began, (SPOILT,))]
-        gate.add("memory.py", [sys.executable, "tests/memory.py", program, *rows])
 
 
 def test_library(gate: Gate, programs: list[str], archives: list[str]) -> None:
