@@ -243,7 +243,7 @@ def main() -> None:
     gate.add("linux/tests", [sys.executable, *KERNEL_TOOLS], {"STRICT": ""})  # PREDICTIONS runs those that need libthp
     programs = made_since(began, BUILT)
     test_programs(gate, programs, began)
-    gate.add("archive.py", [sys.executable, "tests/archive.py", ARCHIVE])
+    gate.add_file("tests/test_archive.py", BUILD_LIBTHP_C=ARCHIVE)
     archives, checkers, drawers = (made_since(began, names) for names in ((ARCHIVE,), CHECKERS, DRAWERS))
     test_library(gate, programs, archives)
     test_journal_tools(gate, programs, checkers, drawers)
