@@ -173,7 +173,7 @@ $(ARCHIVE):
 .PHONY: $(ARCHIVE)
 
 c: toolchain $(ARCHIVE)
-	@python3 tests/library.py $(ARCHIVE) $(if $(GIVEN),$(GIVEN) --cases $(CASES) --seed $(SEED))
+	@LIBTHP_C=$(ARCHIVE) $(if $(GIVEN),THPSPLIT=$(GIVEN) CASES=$(CASES) SEED=$(SEED)) python3 tests/run.py -p test_library.py
 	@python3 tests/wrong_boundary.py $(ARCHIVE)
 	@python3 tests/injected_bugs.py $(ARCHIVE)
 

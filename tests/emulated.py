@@ -21,7 +21,7 @@ ROOT = Path(__file__).resolve().parent.parent
 sys.path[:0] = [str(ROOT), str(ROOT / "release")]
 
 from command import called  # noqa: E402
-from library import ASKED, C, DEMOS, HOST_WORDS, TESTS, header, symbol_versions  # noqa: E402
+from test_library import ASKED, C, DEMOS, HOST_WORDS, TESTS, header, symbol_versions  # noqa: E402
 from platforms import ARM64  # noqa: E402
 from protection import weaknesses  # noqa: E402
 from tally import SKIPPED, Tally  # noqa: E402

@@ -205,7 +205,7 @@ def test_programs(gate: Gate, programs: list[str], began: float) -> None:
 
 def test_library(gate: Gate, programs: list[str], archives: list[str]) -> None:
     """Adds the tests of the library for C, and of what a call from C takes."""
-    gate.add("library.py", [sys.executable, "tests/library.py", *archives, *(programs[:1] if archives else [])])
+    gate.add_file("tests/test_library.py", **({"LIBTHP_C": archives[0], "THPSPLIT": programs[0]} if archives and programs else {}))
     for archive in archives:
         gate.add("bench/calls/run", [sys.executable, "bench/calls/run", archive, "--ceilings"])
     if archives:

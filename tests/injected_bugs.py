@@ -106,7 +106,7 @@ BUGS = (
 
 LIBRARY = """import sys; sys.path.insert(0, "tests")
 from pathlib import Path
-from library import Built
+from test_library import Built
 built = Built(Path(sys.argv[1]), Path(sys.argv[2]))
 sys.exit(built.libraries() or built.{}())"""
 """A program that builds the library in a copy and makes one of its tests."""
@@ -150,7 +150,7 @@ class Copy:
 
     def texts(self) -> bool:
         """Whether the tests that need no archive pass."""
-        return self.ends(sys.executable, "tests/library.py")
+        return self.ends(sys.executable, "tests/run.py", "-p", "test_library.py", "-k", "Texts")
 
     def of_built(self, test: str) -> bool:
         """Whether a test of the built library passes."""

@@ -24,7 +24,7 @@ ROOT = Path(__file__).resolve().parent.parent
 sys.path[:0] = [str(ROOT / "debian"), str(ROOT / "release")]
 
 from build import PARTS  # noqa: E402
-from library import elf_differs, header, soname, version  # noqa: E402
+from test_library import elf_differs, header, soname, version  # noqa: E402
 from process import Call, Ended, run  # noqa: E402
 from protection import is_elf, is_stripped, weaknesses  # noqa: E402
 from tables import table  # noqa: E402
