@@ -174,7 +174,7 @@ $(ARCHIVE):
 
 c: toolchain $(ARCHIVE)
 	@LIBTHP_C=$(ARCHIVE) $(if $(GIVEN),THPSPLIT=$(GIVEN) CASES=$(CASES) SEED=$(SEED)) python3 tests/run.py -p test_library.py
-	@python3 tests/wrong_boundary.py $(ARCHIVE)
+	@THOROUGH=1 LIBTHP_C=$(ARCHIVE) python3 tests/run.py -p test_wrong_boundary.py
 	@python3 tests/injected_bugs.py $(ARCHIVE)
 
 edits:

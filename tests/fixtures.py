@@ -44,6 +44,12 @@ def require_tool(tool: str) -> None:
         raise SkipTest(f"no {tool} here")
 
 
+def require_thorough() -> None:
+    """Skips tests that take minutes, unless THOROUGH=1 asks for them."""
+    if os.environ.get("THOROUGH") != "1":
+        raise SkipTest("it takes minutes; THOROUGH=1 asks for it")
+
+
 def temporary_folder(case: Union[TestCase, type[TestCase]]) -> Path:
     """Returns a new folder, which is removed after the test, or after all tests of a class."""
     made = tempfile.TemporaryDirectory(prefix="thp-test-")

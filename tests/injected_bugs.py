@@ -3,8 +3,8 @@
     python3 tests/injected_bugs.py ARCHIVE [WORD]
 
 ARCHIVE is the result of `rt lib` for crates/thp_c. The bugs are in the header, the texts of codes, the mark of cells, the build, the
-cargo crates, and the Debian packages, which are built with stand-ins for the programs; tests/wrong_boundary.py has those of the readers
-and creates. With WORD only bugs whose name has it are tried.
+cargo crates, and the Debian packages, which are built with stand-ins for the programs; tests/test_wrong_boundary.py has those of the
+readers and creates. With WORD only bugs whose name has it are tried.
 """
 
 from __future__ import annotations
