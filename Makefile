@@ -156,7 +156,7 @@ outside:
 	@$(if $(and $(GIVEN),$(wildcard $(CHECKER))),python3 tests/repeats.py $(CHECKER) $(GIVEN))
 	@$(if $(wildcard $(DRAWER)),python3 tests/drawer.py $(DRAWER))
 	@$(if $(wildcard $(DRAWER)),python3 tests/tables.py $(DRAWER) --seed $(SEED))
-	@$(if $(and $(GIVEN),$(wildcard $(CHECKER)),$(wildcard $(DRAWER)),$(wildcard $(ARCHIVE))),python3 tests/package.py $(GIVEN) $(CHECKER) $(DRAWER) $(ARCHIVE) || test $$? = 77)
+	@$(if $(and $(GIVEN),$(wildcard $(CHECKER)),$(wildcard $(DRAWER)),$(wildcard $(ARCHIVE))),THPSPLIT=$(GIVEN) THPCHECK=$(CHECKER) THPDRAW=$(DRAWER) LIBTHP_C=$(ARCHIVE) python3 tests/run.py -p test_package.py || test $$? = 77)
 
 fuzz: run
 	@python3 tests/fuzz.py $(PROGRAM) $(if $(wildcard $(CHECKER)),--checker $(CHECKER)) --cases $(CASES) --seed $(SEED)

@@ -248,7 +248,7 @@ def main() -> None:
     test_library(gate, programs, archives)
     test_journal_tools(gate, programs, checkers, drawers)
     if programs and checkers and drawers and archives:
-        gate.add("package.py", [sys.executable, "tests/package.py", programs[0], checkers[0], drawers[0], archives[0]])
+        gate.add_file("tests/test_package.py", THPSPLIT=programs[0], THPCHECK=checkers[0], THPDRAW=drawers[0], LIBTHP_C=archives[0])
     if not programs:
         gate.add("examples by rt try", [sys.executable, *EXAMPLES], {"TRY": "1"})
         gate.skip("the program from outside", "rt ci has built none")

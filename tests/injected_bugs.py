@@ -113,7 +113,7 @@ sys.exit(built.libraries() or built.{}())"""
 
 PACKAGES = """import sys; sys.path.insert(0, "tests")
 from pathlib import Path
-from package import built, fields_differ, library_differs, needs_differ
+from test_package import built, fields_differ, library_differs, needs_differ
 *files, folder = map(Path, sys.argv[1:])
 made = built(files, folder)
 sys.exit(fields_differ(made) or library_differs(made, folder) or needs_differ(made, folder))"""
