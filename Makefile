@@ -174,8 +174,7 @@ $(ARCHIVE):
 
 c: toolchain $(ARCHIVE)
 	@LIBTHP_C=$(ARCHIVE) $(if $(GIVEN),THPSPLIT=$(GIVEN) CASES=$(CASES) SEED=$(SEED)) python3 tests/run.py -p test_library.py
-	@THOROUGH=1 LIBTHP_C=$(ARCHIVE) python3 tests/run.py -p test_wrong_boundary.py
-	@python3 tests/injected_bugs.py $(ARCHIVE)
+	@for name in wrong_boundary injected_bugs; do THOROUGH=1 LIBTHP_C=$(ARCHIVE) python3 tests/run.py -p test_$$name.py || exit 1; done
 
 edits:
 	@bash tests/edits/run $(CRATES)
