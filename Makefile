@@ -131,7 +131,7 @@ dist: released
 	@python3 release/dist.py --arch $(ARCH) $(RELEASED) $(DEBS)
 
 cross-test:
-	@python3 tests/emulated.py --cases $(CASES) --seed $(SEED)
+	@THOROUGH=1 CASES=$(CASES) SEED=$(SEED) python3 tests/run.py -p test_emulated.py
 
 reproduce: released
 	@python3 release/reproduce.py $(PROGRAM) $(CHECKER) $(DRAWER) $(ARCHIVE) $(DEBS)
