@@ -137,7 +137,7 @@ reproduce: released
 	@python3 release/reproduce.py $(PROGRAM) $(CHECKER) $(DRAWER) $(ARCHIVE) $(DEBS)
 
 dist-test:
-	@python3 tests/clean_root.py $(DEBS)
+	@RELEASE=$(DEBS) python3 tests/run.py -p test_clean_root.py
 
 test: toolchain
 	@python3 tests/gate.py
