@@ -1,7 +1,7 @@
 """Fails each allocation in turn, and each start of a thread, and checks the result (`make memory`).
 
 If an allocation fails, `thpsplit` must end with status 3, report `thpsplit: out of memory` and write nothing; or it manages with less
-memory, or without the thread, and its output is the usual one. If none fails, they must not request more bytes than `MOST` has. Each test
+memory, or without the thread, and its output is the usual one. If none fails, no more bytes may be requested than `MOST` has. Each test
 of crates/tests_spoilt whose name begins with GROWTHS (`memory::` for all; default: the row that only a failing allocation can show) must
 pass whichever allocation fails; it may report the failed call in a line `refused: CALL`. Needs a C compiler, `cc` or the one that CC
 names. A line for each case and test reports the number of failed allocations.
