@@ -131,13 +131,13 @@ dist: released
 	@python3 release/dist.py --arch $(ARCH) $(RELEASED) $(DEBS)
 
 cross-test:
-	@python3 tests/emulated.py --cases $(CASES) --seed $(SEED)
+	@THOROUGH=1 CASES=$(CASES) SEED=$(SEED) python3 tests/run.py -p test_emulated.py
 
 reproduce: released
 	@python3 release/reproduce.py $(PROGRAM) $(CHECKER) $(DRAWER) $(ARCHIVE) $(DEBS)
 
 dist-test:
-	@python3 tests/clean_root.py $(DEBS)
+	@RELEASE=$(DEBS) python3 tests/run.py -p test_clean_root.py
 
 test: toolchain
 	@python3 tests/gate.py
@@ -147,8 +147,7 @@ GIVEN = $(if $(filter command% environment%,$(origin PROGRAM)),$(PROGRAM))
 
 outside:
 	@for name in docs surface installed release lint; do python3 tests/run.py -p test_$$name.py || test $$? = 77 || exit 1; done
-	@$(if $(GIVEN),for name in examples rows outside wrong_programs; do THPSPLIT=$(GIVEN) python3 tests/run.py -p test_$$name.py || exit 1; done,TRY=1 python3 tests/run.py -p test_examples.py -k Examples || test $$? = 77)
-	@$(if $(GIVEN),python3 tests/spoilt.py $(GIVEN))
+	@$(if $(GIVEN),for name in examples rows outside wrong_programs spoilt; do THPSPLIT=$(GIVEN) python3 tests/run.py -p test_$$name.py || exit 1; done,TRY=1 python3 tests/run.py -p test_examples.py -k Examples || test $$? = 77)
 	@$(if $(GIVEN),python3 tests/large.py $(GIVEN))
 	@$(if $(GIVEN),python3 tests/workers.py $(GIVEN))
 	@$(if $(GIVEN),python3 tests/streams.py $(GIVEN) || test $$? = 77)
@@ -157,7 +156,7 @@ outside:
 	@$(if $(and $(GIVEN),$(wildcard $(CHECKER))),python3 tests/repeats.py $(CHECKER) $(GIVEN))
 	@$(if $(wildcard $(DRAWER)),python3 tests/drawer.py $(DRAWER))
 	@$(if $(wildcard $(DRAWER)),python3 tests/tables.py $(DRAWER) --seed $(SEED))
-	@$(if $(and $(GIVEN),$(wildcard $(CHECKER)),$(wildcard $(DRAWER)),$(wildcard $(ARCHIVE))),python3 tests/package.py $(GIVEN) $(CHECKER) $(DRAWER) $(ARCHIVE) || test $$? = 77)
+	@$(if $(and $(GIVEN),$(wildcard $(CHECKER)),$(wildcard $(DRAWER)),$(wildcard $(ARCHIVE))),THPSPLIT=$(GIVEN) THPCHECK=$(CHECKER) THPDRAW=$(DRAWER) LIBTHP_C=$(ARCHIVE) python3 tests/run.py -p test_package.py || test $$? = 77)
 
 fuzz: run
 	@python3 tests/fuzz.py $(PROGRAM) $(if $(wildcard $(CHECKER)),--checker $(CHECKER)) --cases $(CASES) --seed $(SEED)
@@ -165,7 +164,7 @@ fuzz: run
 
 memory: run
 	@cd crates/tests_spoilt && rt test
-	@python3 tests/memory.py $(PROGRAM) crates/tests_spoilt/out/tests_spoilt_tests:memory::
+	@GROWTHS=memory:: THPSPLIT=$(PROGRAM) python3 tests/run.py -p test_memory.py
 
 $(ARCHIVE):
 	@python3 prove.py thp_c lib
@@ -174,9 +173,8 @@ $(ARCHIVE):
 .PHONY: $(ARCHIVE)
 
 c: toolchain $(ARCHIVE)
-	@python3 tests/library.py $(ARCHIVE) $(if $(GIVEN),$(GIVEN) --cases $(CASES) --seed $(SEED))
-	@python3 tests/wrong_boundary.py $(ARCHIVE)
-	@python3 tests/injected_bugs.py $(ARCHIVE)
+	@LIBTHP_C=$(ARCHIVE) $(if $(GIVEN),THPSPLIT=$(GIVEN) CASES=$(CASES) SEED=$(SEED)) python3 tests/run.py -p test_library.py
+	@for name in wrong_boundary injected_bugs; do THOROUGH=1 LIBTHP_C=$(ARCHIVE) python3 tests/run.py -p test_$$name.py || exit 1; done
 
 edits:
 	@bash tests/edits/run $(CRATES)

@@ -7,8 +7,7 @@ import shutil
 import subprocess
 from collections.abc import Sequence
 from pathlib import Path
-
-from tally import Missing
+from unittest import SkipTest
 
 SECONDS = 300
 """The greatest time that it may take."""
@@ -17,7 +16,7 @@ SECONDS = 300
 def called(command: Sequence[str | Path], where: Path, **more: str) -> str | None:
     """Runs a command, and returns its output if it fails."""
     if shutil.which(str(command[0])) is None and not Path(command[0]).exists():
-        raise Missing(f"no {command[0]} here")
+        raise SkipTest(f"no {command[0]} here")
     try:
         ended = subprocess.run([str(word) for word in command], cwd=where, env={**os.environ, **more}, check=False,
                                capture_output=True, text=True, errors="replace", timeout=SECONDS)

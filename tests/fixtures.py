@@ -15,7 +15,7 @@ ROOT = Path(__file__).resolve().parent.parent
 
 BUILT = {
     "THPSPLIT": "crates/thpsplit/out/thpsplit", "THPCHECK": "crates/thpcheck/out/thpcheck", "THPDRAW": "crates/thpdraw/out/thpdraw",
-    "LIBTHP_C": "crates/thp_c/out/libthp_c.a",
+    "LIBTHP_C": "crates/thp_c/out/libthp_c.a", "TESTS_SPOILT": "crates/tests_spoilt/out/tests_spoilt_tests",
 }
 """What can be under test: the environment variable with its path, and where the tree builds it."""
 
@@ -42,6 +42,12 @@ def require_tool(tool: str) -> None:
     """Skips the test if this machine lacks a tool."""
     if shutil.which(tool) is None:
         raise SkipTest(f"no {tool} here")
+
+
+def require_thorough() -> None:
+    """Skips tests that take minutes, unless THOROUGH=1 asks for them."""
+    if os.environ.get("THOROUGH") != "1":
+        raise SkipTest("it takes minutes; THOROUGH=1 asks for it")
 
 
 def temporary_folder(case: Union[TestCase, type[TestCase]]) -> Path:

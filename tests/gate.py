@@ -50,7 +50,7 @@ BY_EACH = ("tests/test_examples.py", "tests/test_rows.py", "tests/test_outside.p
 EXAMPLES = ("tests/run.py", "-p", "test_examples.py", "-k", "Examples")
 """Those of them that need no built program."""
 
-BY_ONE = ("tests/spoilt.py", "tests/test_wrong_programs.py")
+BY_ONE = ("tests/test_spoilt.py", "tests/test_wrong_programs.py", "tests/test_memory.py")
 """The tests of a program that take longer, for one of them."""
 
 CEILINGS = ("bench/ceilings.py", "--kinds", "churn,counts,clash")
@@ -59,12 +59,6 @@ commands that do least, and with the greatest number of pages of a node."""
 
 ARCHIVE = "crates/thp_c/out/libthp_c.a"
 """Where the archive of the library for C is built: `rt ci` proves it, and builds nothing of it."""
-
-SPOILT = "crates/tests_spoilt/out/tests_spoilt_tests"
-"""Where `rt ci` leaves the tests with failing allocations."""
-
-REFUSED = "memory::node_growths::put_back_without_memory"
-"""The row that only a failing allocation can show. `make memory` has all of them."""
 
 COUNT = re.compile(r"(\d+) passed, (\d+) failed$")
 
@@ -207,13 +201,11 @@ def test_programs(gate: Gate, programs: list[str], began: float) -> None:
         for path in BY_ONE:
             gate.add_file(path, THPSPLIT=program)
         gate.add(Path(CEILINGS[0]).name, [sys.executable, *CEILINGS, program])
-        rows = [f"{path}:{REFUSED}" for path in made_since(began, (SPOILT,))]
-        gate.add("memory.py", [sys.executable, "tests/memory.py", program, *rows])
 
 
 def test_library(gate: Gate, programs: list[str], archives: list[str]) -> None:
     """Adds the tests of the library for C, and of what a call from C takes."""
-    gate.add("library.py", [sys.executable, "tests/library.py", *archives, *(programs[:1] if archives else [])])
+    gate.add_file("tests/test_library.py", **({"LIBTHP_C": archives[0], "THPSPLIT": programs[0]} if archives and programs else {}))
     for archive in archives:
         gate.add("bench/calls/run", [sys.executable, "bench/calls/run", archive, "--ceilings"])
     if archives:
@@ -251,12 +243,12 @@ def main() -> None:
     gate.add("linux/tests", [sys.executable, *KERNEL_TOOLS], {"STRICT": ""})  # PREDICTIONS runs those that need libthp
     programs = made_since(began, BUILT)
     test_programs(gate, programs, began)
-    gate.add("archive.py", [sys.executable, "tests/archive.py", ARCHIVE])
+    gate.add_file("tests/test_archive.py", BUILD_LIBTHP_C=ARCHIVE)
     archives, checkers, drawers = (made_since(began, names) for names in ((ARCHIVE,), CHECKERS, DRAWERS))
     test_library(gate, programs, archives)
     test_journal_tools(gate, programs, checkers, drawers)
     if programs and checkers and drawers and archives:
-        gate.add("package.py", [sys.executable, "tests/package.py", programs[0], checkers[0], drawers[0], archives[0]])
+        gate.add_file("tests/test_package.py", THPSPLIT=programs[0], THPCHECK=checkers[0], THPDRAW=drawers[0], LIBTHP_C=archives[0])
     if not programs:
         gate.add("examples by rt try", [sys.executable, *EXAMPLES], {"TRY": "1"})
         gate.skip("the program from outside", "rt ci has built none")

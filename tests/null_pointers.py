@@ -1,7 +1,7 @@
 """Each call of the library for C, with each of its pointers null in turn: a program in C, made from the header.
 
 The other arguments are valid. Each call returns THP_NULL, and changes neither a handle nor what any pointer points to. With all pointers
-valid it returns something else. `tests/library.py` builds and runs the program, `tests/wrong_boundary.py` removes each test for null.
+valid it returns something else. `tests/test_library.py` builds and runs the program, `test_wrong_boundary.py` removes each test for null.
 """
 
 from __future__ import annotations

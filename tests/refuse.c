@@ -1,6 +1,6 @@
 // Preloaded, it refuses a program one growth of memory, or one start of a thread: the one whose number, from 1 on over
 // all threads, is in the variable REFUSE_MEMORY or REFUSE_THREAD. The file that REFUSE_COUNTS names, of 24 bytes,
-// then has how many growths and how many starts there were, and how many bytes the growths requested. tests/memory.py builds
+// then has how many growths and how many starts there were, and how many bytes the growths requested. tests/test_memory.py builds
 // and uses it.
 #define _GNU_SOURCE
 #include <dlfcn.h>

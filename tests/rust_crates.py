@@ -8,11 +8,11 @@ import subprocess
 import sys
 import tarfile
 from pathlib import Path
+from unittest import SkipTest
 
 from command import called
-from tally import Missing
+from fixtures import ROOT, require_tool
 
-ROOT = Path(__file__).resolve().parent.parent
 sys.path.insert(0, str(ROOT / "release"))
 
 import version  # noqa: E402
@@ -52,7 +52,7 @@ class Crates:
     def are_clean(self) -> str | None:
         """clippy has no warning about the crates."""
         if output_of("cargo", "clippy", "--version") is None:
-            raise Missing("no cargo clippy here")
+            raise SkipTest("no cargo clippy here")
         return self.cargo("clippy", "--workspace", "--all-targets", "--", "-D", "warnings")
 
     def documents(self) -> str | None:
@@ -62,7 +62,7 @@ class Crates:
     def are_packed(self) -> str | None:
         """cargo packs the crates, with their licences, and builds what it packed."""
         if tuple(map(int, re.findall(r"\d+", output_of("cargo", "--version") or "")[:2])) < PACKING:
-            raise Missing("no cargo 1.90 here")
+            raise SkipTest("no cargo 1.90 here")
         wrong = self.cargo("package", "--workspace", "--allow-dirty")
         for name, more in (("leversorrel", "node.rs"), ("leversorrel-sys", "build.rs")):
             packed = self.folder / f"cargo/package/{name}-{version.of_parts()}.crate"
@@ -89,8 +89,7 @@ class Crates:
 
     def find_library(self) -> str | None:
         """Copies of the crates find the library by pkg-config, if it has their version, and before that beside them."""
-        if shutil.which("pkg-config") is None:
-            raise Missing("no pkg-config here")
+        require_tool("pkg-config")
         top, place = self.folder / "elsewhere", self.folder / "installed"
         shutil.copytree(RUST, top / "rust", ignore=shutil.ignore_patterns("target"))
         for path in (place / "lib", top / "lib"):

@@ -328,7 +328,7 @@ class Testing(DocumentCase):
             found = re.search(pattern, text)
             if found is None or int(found[1]) != count:
                 wrong.append(f"{pattern}: {found[1] if found else 'none'}, and there are {count}")
-        sources = "".join(path.read_text() for path in [ROOT / "tests/spoilt.py", *ROOT.glob("crates/tests_spoilt/src/*.rt")])
+        sources = "".join(path.read_text() for path in [ROOT / "tests/test_spoilt.py", *ROOT.glob("crates/tests_spoilt/src/*.rt")])
         for cells in table_rows(section("docs/TESTING.md", "Texts, devices")):
             if "spoilt" in cells[-1]:
                 wrong += [number for number in cells[1].split("; ") if number.replace(",", "_") not in sources]

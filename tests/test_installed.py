@@ -15,7 +15,7 @@ from typing import IO
 from unittest import SkipTest, TestCase
 
 from fixtures import ROOT, add_tests, require_tool, temporary_folder
-from library import is_unprotected
+from test_library import is_unprotected
 
 PROGRAMS = {"thpsplit": "thp_cli/src/options.rt", "thpcheck": "thp_journal_tools/src/program.rt",
             "thpdraw": "thp_journal_tools/src/draw_program.rt"}

@@ -201,7 +201,7 @@ rt: thp_page is kept: an earlier run proved it
         self.assertEqual(seen.lines, {"thp_links": f"{LINE}\n"})
 
     def test_one_version(self) -> None:
-        """Sources, manual pages, library and cargo crates have one number. tests/package.py compares it with the packages."""
+        """Sources, manual pages, library and cargo crates have one number. tests/test_package.py compares it with the packages."""
         self.assertEqual(version.differing(version.PROGRAMS) + version.differing(version.LIBRARY), [])
         programs, library = (next(iter(version.numbers(it).values())) for it in (version.PROGRAMS, version.LIBRARY))
         self.assertEqual(programs, library)

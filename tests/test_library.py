@@ -1,35 +1,35 @@
 """The library for C and for Rust: its parts agree, and it does what the header specifies, on the proved archive.
 
-    python3 tests/library.py [ARCHIVE [PROGRAM]] [--cases N] [--seed S]
-
-ARCHIVE is the result of `rt lib` for crates/thp_c; without one only the texts are compared. With PROGRAM, a built thpsplit, both
-execute N random scripts (default 200). What a machine lacks (a compiler, cargo, valgrind) is named.
+LIBTHP_C and THPSPLIT name the archive and the program; both execute CASES random scripts (default 200) from SEED (default 1). Without an
+archive only the texts are compared. What a machine lacks (a compiler, cargo, valgrind) is named.
 """
 
 from __future__ import annotations
 
-import argparse
+import os
 import re
 import shutil
 import subprocess
 import sys
 import tempfile
+from collections.abc import Callable
 from functools import cache
 from pathlib import Path
 from random import Random
+from unittest import TestCase
 
-ROOT = Path(__file__).resolve().parent.parent
+from command import called
+from fixtures import ROOT, add_tests, find_built, require_tool, temporary_folder
+from model import Node
+from null_pointers import program_text
+from random_texts import Script, joined, likely_words, operands, random_shapes, script_of_one
+from rust_crates import Crates
+from script import Run
+
 sys.path.insert(0, str(ROOT / "release"))
 
 import version as places  # noqa: E402
-from command import called  # noqa: E402
-from model import Node  # noqa: E402
-from null_pointers import program_text  # noqa: E402
 from protection import weaknesses  # noqa: E402
-from random_texts import Script, joined, likely_words, operands, random_shapes, script_of_one  # noqa: E402
-from script import Run  # noqa: E402
-from rust_crates import Crates  # noqa: E402
-from tally import Missing, Tally  # noqa: E402
 
 C = ROOT / "c"
 
@@ -289,8 +289,7 @@ def processor_is_named() -> str | None:
 def elf_differs(library: Path) -> str | None:
     """What is wrong with a library: its soname, the version of its symbols, memory that stays writable, or names resolved late."""
     name, symbols = soname(), (symbol_versions() or ["THP_"])[-1]
-    if shutil.which("readelf") is None:
-        raise Missing("no readelf here")
+    require_tool("readelf")
     reported = subprocess.run(["readelf", "-dVW", library], capture_output=True, text=True, check=False).stdout
     wanted = {f"soname {name}": rf"\(SONAME\).*\[{re.escape(name)}\]", f"version {symbols}": rf"Name: {re.escape(symbols)}$"}
     return ", ".join(f"not {it}" for it in wanted if not re.search(wanted[it], reported, re.M)) or is_unprotected(library)
@@ -298,8 +297,7 @@ def elf_differs(library: Path) -> str | None:
 
 def is_unprotected(built: Path) -> str | None:
     """What a library or program lacks of the protection that distributions require."""
-    if shutil.which("readelf") is None:
-        raise Missing("no readelf here")
+    require_tool("readelf")
     return ", ".join(weaknesses(built)) or None
 
 
@@ -390,8 +388,7 @@ class Built:
 
     def found(self, place: Path) -> str | None:
         """What is wrong when pkg-config and CMake find an installed library, and the first demo is built with it."""
-        if shutil.which("pkg-config") is None:
-            raise Missing("no pkg-config here")
+        require_tool("pkg-config")
         build = """cc demos/first.c $(pkg-config --cflags --libs thp) -o $OUT/found && LD_LIBRARY_PATH=$PLACE/lib/many $OUT/found &&
             test "$(pkg-config --modversion thp)" = "$VERSION" && test -f "$(pkg-config --variable=suppressions thp)"
             """
@@ -400,8 +397,7 @@ class Built:
 
     def found_by_cmake(self, place: Path) -> str | None:
         """The same by CMake, which also refuses a library that is older than asked for."""
-        if shutil.which("cmake") is None:
-            raise Missing("no cmake here")
+        require_tool("cmake")
         source, out = Path(tempfile.mkdtemp(dir=self.folder)), Path(tempfile.mkdtemp(dir=self.folder))
         (source / "CMakeLists.txt").write_text(CMAKE_USE.replace("DEMO", str(C / "demos/first.c")))
         configure = ["cmake", "-S", str(source), "-B", str(out), f"-Dthp_DIR={place / 'lib/many/cmake/thp'}"]
@@ -411,39 +407,40 @@ class Built:
         newer = called([*configure, f"-DWANTED={major}.999"], source)
         return wrong or (None if newer else "CMake took a library that is too old")
 
-    def random_sequences(self, program: Path, cases: int, seed: int) -> str | None:
+    def random_sequences(self) -> str | None:
         """The cargo crates have the program's results for random sequences of calls, and the same journals and numbers."""
-        more = {"THP_PROGRAM": str(program), "THP_CASES": str(cases), "THP_SEED": str(seed)}
+        more = {"THP_PROGRAM": str(find_built("THPSPLIT")), "THP_CASES": str(CASES // 2), "THP_SEED": str(SEED)}
         return Crates(self.folder).cargo("test", "--test", "random", more=more)
 
-    def many_batches(self, cases: int, seed: int) -> str | None:
-        """Batches of several callers on one node, through nodes and through passes, agree with a plain reading of the model."""
+    def replay(self) -> Path:
+        """A program that replays a script by the library."""
         replay = self.folder / "replay"
         wrong = called(["cc", "-std=c11", "-O1", "-I.", "tests/replay.c", self.folder / "libthp.a", "-o", replay], C)
-        for case in range(cases if wrong is None else 0):
-            wrong = differs_on_batches(replay, Random(f"batches {seed} {case}"))
-            if wrong is not None:
-                return f"case {case} of seed {seed}: {wrong}"
-        return wrong
+        assert wrong is None, wrong
+        return replay
 
-    def same_answers(self, program: Path, cases: int, seed: int) -> str | None:
+    def many_batches(self) -> str | None:
+        """Batches of several callers on one node, through nodes and through passes, agree with a plain reading of the model."""
+        replay = self.replay()
+        found = ((case, differs_on_batches(replay, Random(f"batches {SEED} {case}"))) for case in range(CASES))
+        return next((f"case {case} of seed {SEED}: {wrong}" for case, wrong in found if wrong), None)
+
+    def same_answers(self) -> str | None:
         """The library has the program's answers for random scripts, through nodes and through passes of shared ones, and the
         same journals."""
-        replay = self.folder / "replay"
-        wrong = called(["cc", "-std=c11", "-O1", "-I.", "tests/replay.c", self.folder / "libthp.a", "-o", replay], C)
-        for case in range(cases if wrong is None else 0):
-            chance = Random(f"{seed} {case}")
+        program, replay = find_built("THPSPLIT"), self.replay()
+        for case in range(CASES):
+            chance = Random(f"{SEED} {case}")
             script = script_of_one(chance)
             wrong = differs(replay, program, script, script.options(chance))
             if wrong is not None:
-                return f"case {case} of seed {seed}: {wrong}"
-        return wrong
+                return f"case {case} of seed {SEED}: {wrong}"
+        return None
 
 
 def found_by_man(place: Path) -> str | None:
     """What is wrong when man looks for the page of each function."""
-    if shutil.which("man") is None:
-        raise Missing("no man here")
+    require_tool("man")
     shown = subprocess.run(["man", "-M", place / "share/man", "-w", "3", *header()], capture_output=True, text=True, check=False)
     if shown.returncode != 0:
         return shown.stderr.strip()[:200]
@@ -567,76 +564,80 @@ def host_differs() -> str | None:
     return None
 
 
-def texts(tally: Tally) -> None:
+class Texts(TestCase):
     """What needs no archive."""
-    tally.run("what the proved crate exports is declared", exports_are_declared)
-    tally.run("the header's functions are the proved ones", header_is_proved)
-    tally.run("the names that are shown are the header's", names_are_listed)
-    tally.run("leversorrel-sys declares what the header does", crate_is_declared)
-    tally.run("codes have one number", codes_agree)
-    tally.run("structs have the same fields", structs_agree)
-    tally.run("the manual page has each code and limit", descriptions_agree)
-    tally.run("versions agree", versions_agree)
-    tally.run("Debian's list of symbols names their versions", symbols_are_dated)
-    tally.run("the level of processor is named", processor_is_named)
-    tally.run("what the programs of other platforms ask of C", host_differs)
 
 
-def builds(tally: Tally, built: Built) -> None:
-    """The tests of what is built from the archive, and the tests in C."""
-    tally.run("both libraries are built", built.libraries)
-    tally.run("they show the header's names", built.shown_names)
-    tally.run("soname, version and protection of the shared library", built.header_of_elf)
-    tally.run("the shared library asks for memory alone", built.wanted_names)
-    tally.run("the demos run", built.demos)
-    for compiler, words in BUILDS:
-        for name in TESTS:
-            tally.run(f"{name}: {compiler} {' '.join(words)}", lambda: built.test(name, compiler, words, []))
-    for name in ("demos/threads.c", "demos/cell.c", "tests/interrupted.c", "tests/busy.c", "tests/marks.c"):
-        tally.run(f"{name}: gcc -fsanitize=thread", lambda: built.test(name, "gcc", RACING, []))
-    tally.run("each pointer of each call null in turn", built.null_pointers)
-    tally.run("suppressions for the thread sanitizer", built.suppressed)
-    # valgrind runs one thread at a time: without fair turns, on an idle machine, one that never blocks keeps all others waiting
-    under = ["valgrind", "-q", "--fair-sched=try", "--error-exitcode=9", "--leak-check=full", "--errors-for-leak-kinds=all"]
-    for name in TESTS:
-        tally.run(f"{name}: under valgrind", lambda: built.test(name, "gcc", ["-std=gnu11"], under))
-    tally.run("the header's documents", built.documents)
-    tally.run("what is installed is found", built.installed)
-    crates = Crates(built.folder)
-    tally.run("the cargo crates", crates.tests)
-    tally.run("clippy on the cargo crates", crates.are_clean)
-    tally.run("the documents of the cargo crates", crates.documents)
-    tally.run("the cargo crates are packed", crates.are_packed)
-    tally.run("the folder that THP_LIB names", crates.named_folder)
-    tally.run("the cargo crates find the library", crates.find_library)
+add_tests(Texts, lambda _, check: check(), (
+    ("what the proved crate exports is declared", exports_are_declared),
+    ("the functions of the header are the proved ones", header_is_proved),
+    ("the names that are shown are those of the header", names_are_listed),
+    ("leversorrel_sys declares what the header does", crate_is_declared),
+    ("codes have one number", codes_agree),
+    ("structs have the same fields", structs_agree),
+    ("the manual page has each code and limit", descriptions_agree),
+    ("versions agree", versions_agree),
+    ("the list of symbols of Debian names their versions", symbols_are_dated),
+    ("the level of processor is named", processor_is_named),
+    ("what the programs of other platforms ask of C", host_differs),
+))
 
 
-def main() -> None:
-    """Compares the texts, and tests what is built from the archive."""
-    words = argparse.ArgumentParser(description=__doc__, formatter_class=argparse.RawDescriptionHelpFormatter)
-    words.add_argument("archive", nargs="?", type=Path)
-    words.add_argument("program", nargs="?", type=Path)
-    words.add_argument("--cases", type=int, default=200)
-    words.add_argument("--seed", type=int, default=1)
-    asked = words.parse_args()
-    tally = Tally()
-    texts(tally)
-    if asked.archive is None or not asked.archive.exists():
-        tally.skip("the library for C", "no archive was built" if asked.archive else "no archive was named")
-    elif shutil.which("cc") is None or shutil.which("make") is None:
-        tally.skip("the library for C", "no C compiler or no make here")
-    else:
-        with tempfile.TemporaryDirectory(prefix="thp-library-") as folder:
-            built = Built(asked.archive.resolve(), Path(folder))
-            builds(tally, built)
-            tally.run(f"{asked.cases} times batches of several callers", lambda: built.many_batches(asked.cases, asked.seed))
-            if asked.program is not None:
-                program = asked.program.resolve()
-                tally.run(f"{asked.cases} random scripts", lambda: built.same_answers(program, asked.cases, asked.seed))
-                half = asked.cases // 2
-                tally.run(f"{half} random sequences in Rust", lambda: built.random_sequences(program, half, asked.seed))
-    tally.end()
+class Library(TestCase):
+    """What is built from the archive, the tests in C, and the cargo crates."""
+
+    built: Built
+    wrong: str | None
+
+    @classmethod
+    def setUpClass(cls) -> None:
+        """Builds the library, or skips the tests."""
+        archive = find_built("LIBTHP_C")
+        for tool in ("cc", "make"):
+            require_tool(tool)
+        cls.built = Built(archive, temporary_folder(cls))
+        cls.wrong = cls.built.libraries()
+
+    def check(self, test: Callable[[Built], str | None]) -> str | None:
+        """Returns what is wrong with the library, or None."""
+        return test(self.built)
+
+    def test_both_libraries_are_built(self) -> None:
+        self.assertIsNone(self.wrong)
 
 
-if __name__ == "__main__":
-    main()
+def build_and_run(source: str, compiler: str, words: list[str], under: tuple[str, ...] = ()) -> Callable[[Built], str | None]:
+    """Returns the check of a test in C."""
+    return lambda built: built.test(source, compiler, words, [*under])
+
+
+CASES, SEED = int(os.environ.get("CASES", "200")), int(os.environ.get("SEED", "1"))
+
+# valgrind runs one thread at a time: without fair turns, on an idle machine, one that never blocks keeps all others waiting
+VALGRIND = ("valgrind", "-q", "--fair-sched=try", "--error-exitcode=9", "--leak-check=full", "--errors-for-leak-kinds=all")
+
+add_tests(Library, Library.check, (
+    ("the libraries show the names of the header", Built.shown_names),
+    ("soname, version and protection of the shared library", Built.header_of_elf),
+    ("the shared library asks for memory alone", Built.wanted_names),
+    ("the demos run", Built.demos),
+    *((f"{name} by {compiler} {' '.join(words)}", build_and_run(name, compiler, words)) for compiler, words in BUILDS for name in TESTS),
+    *((f"{name} by gcc -fsanitize=thread", build_and_run(name, "gcc", RACING))
+      for name in ("demos/threads.c", "demos/cell.c", "tests/interrupted.c", "tests/busy.c", "tests/marks.c")),
+    ("each pointer of each call null in turn", Built.null_pointers),
+    ("suppressions for the thread sanitizer", Built.suppressed),
+    *((f"{name} under valgrind", build_and_run(name, "gcc", ["-std=gnu11"], VALGRIND)) for name in TESTS),
+    ("the documents of the header", Built.documents),
+    ("what is installed is found", Built.installed),
+    ("batches of several callers", Built.many_batches),
+    ("random scripts as the program", Built.same_answers),
+    ("random sequences in Rust as the program", Built.random_sequences),
+))
+add_tests(Library, lambda self, test: test(Crates(self.built.folder)), (
+    ("the cargo crates", Crates.tests),
+    ("clippy on the cargo crates", Crates.are_clean),
+    ("the documents of the cargo crates", Crates.documents),
+    ("the cargo crates are packed", Crates.are_packed),
+    ("the folder that THP_LIB names", Crates.named_folder),
+    ("the cargo crates find the library", Crates.find_library),
+))

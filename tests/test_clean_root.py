@@ -1,16 +1,13 @@
 """The release in a clean Debian: unpacked, run and linked in a root folder that has no Rattle toolchain, also by the lines of README.md.
 
-    python3 tests/clean_root.py FOLDER [--root EXISTING] [--suite NAME ..] [--mirror URL]
-
-FOLDER has what `make dist` made, and the packages if `make deb` made them there. debootstrap makes the roots, of Debian 12 and of
-Debian 11, in a temporary folder; with --root it is a copy of an existing one, which needs the packages that INCLUDED lists. Where
-glibc is too old for the programs, these must name the version that they need, and the library and the tools in Python must work.
-Nothing is left behind. Needs root and the network. Status 77 with one line if something is missing.
+RELEASE names the folder that has what `make dist` made, and the packages if `make deb` made them there. debootstrap makes the roots, of
+Debian 12 and of Debian 11 (or of SUITES), from DEBIAN_MIRROR in a temporary folder; with DEBIAN_ROOT it is a copy of an existing one,
+which needs the packages that INCLUDED lists. Where glibc is too old for the programs, these must name the version that they need, and
+the library and the tools in Python must work. Nothing is left behind. Needs root and the network.
 """
 
 from __future__ import annotations
 
-import argparse
 import os
 import re
 import shutil
@@ -19,18 +16,20 @@ import subprocess
 import sys
 import tempfile
 import time
-from functools import partial
+from collections.abc import Callable
 from pathlib import Path
-from types import FrameType
+from unittest import SkipTest, TestCase
 
-from tally import SKIPPED, Missing, Tally
+from fixtures import ROOT, add_tests
+from run import SKIPPED
 
-ROOT = Path(__file__).resolve().parent.parent
 sys.path.insert(0, str(ROOT / "release"))
 
 from protection import oldest_glibc  # noqa: E402
 
-SUITES, MIRROR = ("bookworm", "bullseye"), "http://deb.debian.org/debian"
+RELEASE, EXISTING = (os.environ.get(name) for name in ("RELEASE", "DEBIAN_ROOT"))
+SUITES = [EXISTING] if EXISTING else os.environ.get("SUITES", "bookworm bullseye").split()
+MIRROR = os.environ.get("DEBIAN_MIRROR", "http://deb.debian.org/debian")
 INCLUDED = "gcc,libc6-dev,pkg-config,cmake,make,python3,xz-utils"
 """The packages that the root has beside the essential ones, and libbpf1, which Debian 11 lacks."""
 
@@ -108,17 +107,17 @@ def readme_lines() -> list[str]:
 class Root:
     """A Debian root in a folder, with the unpacked archive in /opt."""
 
-    def __init__(self, folder: Path, asked: argparse.Namespace, suite: str) -> None:
+    def __init__(self, folder: Path, suite: str) -> None:
         self.path = folder / "root"
-        if asked.root:
-            done = called(["cp", "-a", "--reflink=auto", asked.root, str(self.path)])
+        if EXISTING:
+            done = called(["cp", "-a", "--reflink=auto", EXISTING, str(self.path)])
         else:
             included = INCLUDED if suite == "bullseye" else f"{INCLUDED},libbpf1"
-            words = ["debootstrap", "--variant=minbase", f"--include={included}", suite, str(self.path), asked.mirror]
+            words = ["debootstrap", "--variant=minbase", f"--include={included}", suite, str(self.path), MIRROR]
             done = called(words)
         if done.returncode != 0:
             reported = (done.stdout + done.stderr).strip().splitlines()
-            raise Missing(f"no Debian root: {reported[-1] if reported else f'status {done.returncode}'}")
+            raise SkipTest(f"no Debian root: {reported[-1] if reported else f'status {done.returncode}'}")
         self.path.chmod(0o755)
 
     def run(self, script: str, user: str = NOBODY, lent: str | None = None) -> subprocess.CompletedProcess[str]:
@@ -205,7 +204,7 @@ class Root:
         """A program in Rust is built by the cargo of this machine, and its assertions hold."""
         cargo = cargo_of_machine()
         if cargo is None:
-            raise Missing("no cargo here")
+            raise SkipTest("no cargo here")
         return self.differs(RUST, lent=cargo)
 
     def follows_readme(self, archive: Path) -> str | None:
@@ -239,7 +238,7 @@ class Root:
         tool names it, with status 4."""
         done = self.run(f"mount -t proc proc /proc; mount -t sysfs sysfs /sys\n{script}", "0:0")
         if done.returncode == SKIPPED:
-            raise Missing(done.stderr.strip()[-200:])
+            raise SkipTest(done.stderr.strip()[-200:])
         has_unread = done.returncode == INCONCLUSIVE and "\nNOT READ: process " in done.stdout
         is_table = (done.returncode == 0 or has_unread) and "threshold  pages split" in done.stdout
         return None if is_table else f"status {done.returncode}: {(done.stdout + done.stderr).strip()[-400:]}"
@@ -276,11 +275,11 @@ class Root:
         return removed or (None if is_refused else f"status {done.returncode}: {(done.stdout + done.stderr).strip()[-300:]}")
 
 
-def missing(folder: Path, asked: argparse.Namespace) -> str | None:
+def missing(folder: Path) -> str | None:
     """What this machine lacks, or None."""
     if os.geteuid() != 0:
         return "it needs root"
-    tools = {"unshare": "util-linux", "chroot": "coreutils"} | ({} if asked.root else {"debootstrap": "debootstrap"})
+    tools = {"unshare": "util-linux", "chroot": "coreutils"} | ({} if EXISTING else {"debootstrap": "debootstrap"})
     lacks = [package for tool, package in tools.items() if shutil.which(tool, path="/usr/sbin:/usr/bin:/sbin:/bin") is None]
     if lacks:
         return f"this machine lacks {', '.join(lacks)}"
@@ -301,70 +300,65 @@ cc /usr/share/doc/libthp-dev/examples/first.c $(pkg-config --cflags --libs thp) 
 """A script that builds a program with the packaged library and runs it."""
 
 
-def try_all(tally: Tally, root: Root, folder: Path, suite: str) -> None:
-    """Runs the tests in the root: after the first two, only if the archive was unpacked."""
-    packages = [path for path in sorted(folder.glob("*.deb")) if "-dbgsym_" not in path.name and "_arm64" not in path.name]
-    tally.run(f"{suite}: no toolchain", root.has_no_toolchain)
-    failed = tally.failed
-    tally.run(f"{suite}: the archive", partial(root.unpacks, next(folder.glob(ARCHIVE))))
-    if tally.failed > failed:
-        return
-    is_old = root.glibc() < root.needed_glibc()
-    if is_old:
-        tally.run(f"{suite}: the programs name the glibc that they need", root.programs_name_glibc)
-        tally.run(f"{suite}: the tools in Python", root.tools_run)
-    else:
-        tally.run(f"{suite}: the lines of README.md", partial(root.follows_readme, next(folder.glob(ARCHIVE))))
-        tally.run(f"{suite}: the first run", root.first_run)
-        tally.run(f"{suite}: programs, manual pages, completions", root.programs_run)
-        tally.run(f"{suite}: thpwhatif now --all", root.whatif_looks)
-    tally.run(f"{suite}: a program in C by pkg-config", root.links_by_pkg_config)
-    tally.run(f"{suite}: a program in C by CMake", root.links_by_cmake)
-    tally.run(f"{suite}: a program in Rust by cargo", root.builds_by_cargo)
-    if not packages:
-        tally.skip(f"{suite}: packages", f"none in {folder}: `make deb` makes them")
-    elif is_old:
-        own = [path for path in packages if path.name.startswith("libthp")]
-        tally.run(f"{suite}: packages of the library", partial(root.packages_come_and_go, own, LINK))
-        tally.run(f"{suite}: the package of the programs is refused", partial(root.program_packages_are_refused, packages))
-    else:
-        tally.run(f"{suite}: packages", partial(root.packages_come_and_go, packages, f"{RUN_ALL}\n{LINK}"))
+class CleanRoot(TestCase):
+    """The release in a root of each suite."""
 
+    folder: Path
 
-def try_suite(tally: Tally, asked: argparse.Namespace, suite: str) -> None:
-    """Makes a root, tests the release in it, and removes it."""
-    with tempfile.TemporaryDirectory(prefix="thp-clean-root-", dir="/var/tmp") as name:
+    @classmethod
+    def setUpClass(cls) -> None:
+        """Finds the release, or skips the tests."""
+        if not RELEASE:
+            raise SkipTest("RELEASE=FOLDER names what `make dist` made")
+        cls.folder = Path(RELEASE)
+        lacks = missing(cls.folder)
+        if lacks:
+            raise SkipTest(lacks)
+        signal.signal(signal.SIGTERM, signal.default_int_handler)
+
+    def check_suite(self, suite: str) -> None:
+        """Makes a root, tests the release in it, and removes it."""
+        made = tempfile.TemporaryDirectory(prefix="thp-clean-root-", dir="/var/tmp")
         try:
-            root = Root(Path(name), asked, suite)
-        except Missing as why:
-            tally.skip(suite, str(why))
+            with made as name:
+                self.check_all(Root(Path(name), suite), next(self.folder.glob(ARCHIVE)))
+        finally:
+            self.assertIsNone(is_left(Path(made.name)))
+
+    def check(self, what: str, test: Callable[[], str | None]) -> None:
+        """Makes a test in the root, and continues if it fails or is skipped, which doesn't skip the others."""
+        with self.subTest(what):
+            try:
+                self.assertIsNone(test())
+            except SkipTest as why:
+                self.assertNotEqual(os.environ.get("STRICT"), "1", why)
+                print(f"skipped: {what}: {why}", flush=True)
+
+    def check_all(self, root: Root, archive: Path) -> None:
+        """Makes all tests in the root: after the first two, only if the archive was unpacked."""
+        packages = [path for path in sorted(self.folder.glob("*.deb")) if "-dbgsym_" not in path.name and "_arm64" not in path.name]
+        self.check("no toolchain", root.has_no_toolchain)
+        self.assertIsNone(root.unpacks(archive))
+        is_old = root.glibc() < root.needed_glibc()
+        if is_old:
+            self.check("the programs name the glibc that they need", root.programs_name_glibc)
+            self.check("the tools in Python", root.tools_run)
         else:
-            try_all(tally, root, asked.folder, suite)
-    tally.run(f"{suite}: nothing is left", partial(is_left, Path(name)))
+            self.check("the lines of README.md", lambda: root.follows_readme(archive))
+            self.check("the first run", root.first_run)
+            self.check("programs, manual pages, completions", root.programs_run)
+            self.check("thpwhatif now --all", root.whatif_looks)
+        self.check("a program in C by pkg-config", root.links_by_pkg_config)
+        self.check("a program in C by CMake", root.links_by_cmake)
+        self.check("a program in Rust by cargo", root.builds_by_cargo)
+        if not packages:
+            self.check("packages", lambda: self.skipTest(f"none in {self.folder}: `make deb` makes them"))
+        elif is_old:
+            own = [path for path in packages if path.name.startswith("libthp")]
+            self.check("packages of the library", lambda: root.packages_come_and_go(own, LINK))
+            self.check("the package of the programs is refused", lambda: root.program_packages_are_refused(packages))
+        else:
+            self.check("packages", lambda: root.packages_come_and_go(packages, f"{RUN_ALL}\n{LINK}"))
 
 
-def main() -> None:
-    """Tests the release in each root."""
-    words = argparse.ArgumentParser(description=__doc__, formatter_class=argparse.RawDescriptionHelpFormatter)
-    words.add_argument("folder", type=Path)
-    words.add_argument("--root", help="a Debian root to copy")
-    words.add_argument("--suite", nargs="+", default=SUITES)
-    words.add_argument("--mirror", default=os.environ.get("DEBIAN_MIRROR", MIRROR))
-    asked = words.parse_args()
-    lacks = missing(asked.folder, asked)
-    if lacks:
-        print(f"clean root: skipped: {lacks}")
-        sys.exit(SKIPPED)
-
-    def end(number: int, _: FrameType | None) -> None:
-        sys.exit(128 + number)
-
-    signal.signal(signal.SIGTERM, end)
-    tally = Tally()
-    for suite in [asked.root] if asked.root else asked.suite:
-        try_suite(tally, asked, suite)
-    tally.end()
-
-
-if __name__ == "__main__":
-    main()
+add_tests(CleanRoot, CleanRoot.check_suite, ((f"the release in {suite}", suite) for suite in SUITES))

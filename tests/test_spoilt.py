@@ -1,7 +1,5 @@
 """Texts with an error at one place: each prefix of the rows' scripts and journals, and each of their bytes set to others.
 
-    tests/spoilt.py PROGRAM
-
 The expected result of each text (its first error; otherwise the totals, or the verdict) is computed by texts.py and script.py,
 which share no code with the program. The number of texts, and the number of those with an error, is known beforehand.
 """
@@ -10,22 +8,22 @@ from __future__ import annotations
 
 import os
 import subprocess
-import sys
 from functools import partial
 from multiprocessing.pool import Pool
 from pathlib import Path
-from typing import Callable, Iterable, Iterator, Optional
+from typing import Callable, Iterator, Optional
 
 from faulty_texts import ILLEGAL
+from fixtures import ProgramCase, add_tests
 from process import SECONDS, Ended
 from script import Run, Shape, first_illegal
-from tally import Tally
 from test_rows import ROWS, Row, lines
 from texts import Fault, journal_fault, script_fault
 
 VALUES = (0, 0xFF, ord("\n"), ord(" "))
 """The values that bytes are set to: two that occur in no text, and the two that separate lines and words."""
 
+Spoil = Callable[[bytes], Iterator[bytes]]
 Work = tuple[tuple[str, ...], bytes, Ended]
 """Words of the command line, a text, and the expected end of the run."""
 
@@ -80,7 +78,7 @@ def journals() -> Iterator[bytes]:
     yield from (text + b"end\n" for text, _ in ILLEGAL[::8])
 
 
-def fronts(text: bytes) -> Iterator[bytes]:
+def prefixes(text: bytes) -> Iterator[bytes]:
     """Each prefix of a text, without the whole."""
     return (text[:count] for count in range(len(text)))
 
@@ -115,43 +113,37 @@ def wrong(program: Path, work: Work) -> Optional[str]:
     return None if differs is None else f"{' '.join(words)} on {text!r}: {differs}"
 
 
-def first_wrong(pool: Pool, program: Path, works: Iterable[Work], number: int, faulty: int) -> Optional[str]:
-    """What is wrong with the first run that differs, or with the number of runs; or None."""
-    tried = list(works)
-    counts = (len(tried), sum(1 for _, _, wanted in tried if wanted.status == 2))
-    if counts != (number, faulty):
-        return f"{counts[0]} texts, {counts[1]} of them with a fault, in place of {number} and {faulty}"
-    return next((it for it in pool.imap(partial(wrong, program), tried, chunksize=200) if it), None)
-
-
-def scripts(spoil: Callable[[bytes], Iterator[bytes]]) -> Iterator[Work]:
+def scripts(spoil: Spoil) -> Iterator[Work]:
     """The scripts of the rows, spoilt."""
     return (of_script(row, text) for row in ROWS for text in spoil(lines(row.script)))
 
 
-def checks(spoil: Callable[[bytes], Iterator[bytes]]) -> Iterator[Work]:
+def checks(spoil: Spoil) -> Iterator[Work]:
     """The journals, spoilt."""
     return (of_journal(text) for journal in journals() for text in spoil(journal))
 
 
-def main() -> None:
-    """Tests the program of the command line."""
-    program = Path(sys.argv[-1])
-    if len(sys.argv) != 2 or not os.access(program, os.X_OK) or program.is_dir():
-        sys.exit(f"{program} is no program\n\n{__doc__}")
-    program = program.resolve()
-    tally = Tally()
-    with Pool() as pool:
-        for name, works, number, faulty in (
-            ("fronts of scripts", scripts(fronts), 2_599, 2_352),
-            ("fronts of journals", checks(fronts), 4_500, 4_500),
-            ("bytes of scripts", scripts(set_bytes), 10_396, 9_643),
-            ("bytes of journals", checks(set_bytes), 18_000, 16_836),
-        ):
-            test = partial(first_wrong, pool, program, works, number, faulty)
-            tally.run(name, test)
-    tally.end()
+Texts = tuple[Callable[[Spoil], Iterator[Work]], Spoil, int, int]
+"""What is spoilt and how, the number of texts, and the number of those with an error."""
 
 
-if __name__ == "__main__":
-    main()
+class Spoilt(ProgramCase):
+    """The program reports the first error of each text, or its result."""
+
+    def check(self, row: Texts) -> Optional[str]:
+        """Returns what is wrong with the number of texts, or with the first run that differs; or None."""
+        make, spoil, number, faulty = row
+        tried = list(make(spoil))
+        counts = (len(tried), sum(1 for _, _, wanted in tried if wanted.status == 2))
+        if counts != (number, faulty):
+            return f"{counts[0]} texts, {counts[1]} of them with an error, in place of {number} and {faulty}"
+        with Pool() as pool:
+            return next((it for it in pool.imap(partial(wrong, self.program), tried, chunksize=200) if it), None)
+
+
+add_tests(Spoilt, Spoilt.check, (
+    ("prefixes of scripts", (scripts, prefixes, 2_599, 2_352)),
+    ("prefixes of journals", (checks, prefixes, 4_500, 4_500)),
+    ("bytes of scripts", (scripts, set_bytes, 10_396, 9_643)),
+    ("bytes of journals", (checks, set_bytes, 18_000, 16_836)),
+))

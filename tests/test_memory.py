@@ -1,14 +1,10 @@
-#!/usr/bin/env python3
 """Fails each allocation in turn, and each start of a thread, and checks the result (`make memory`).
 
-    tests/memory.py PROGRAM [TESTS[:FRONT] ..]
-
-PROGRAM is the built `thpsplit`. If an allocation fails, it must end with status 3, report `thpsplit: out of memory` and write
-nothing; or it manages with less memory, or without the thread, and its output is the usual one. If none fails, they must not
-request more bytes than `MOST` has. TESTS are built tests; each
-test whose name begins with FRONT (every test if there is none) must pass whichever allocation fails; it may report the failed
-call in a line `refused: CALL`. Needs a C compiler, `cc` or the one that CC names; the exit status is 77 if there is none. A
-line for each case reports the number of failed allocations; the last line is `N passed, M failed`, by cases and tests.
+If an allocation fails, `thpsplit` must end with status 3, report `thpsplit: out of memory` and write nothing; or it manages with less
+memory, or without the thread, and its output is the usual one. If none fails, no more bytes may be requested than `MOST` has. Each test
+of crates/tests_spoilt whose name begins with GROWTHS (`memory::` for all; default: the row that only a failing allocation can show) must
+pass whichever allocation fails; it may report the failed call in a line `refused: CALL`. Needs a C compiler, `cc` or the one that CC
+names. A line for each case and test reports the number of failed allocations.
 """
 
 from __future__ import annotations
@@ -16,21 +12,21 @@ from __future__ import annotations
 import os
 import pathlib
 import re
-import shutil
 import struct
 import subprocess
-import sys
 import tempfile
 from collections import Counter
 from concurrent.futures import ThreadPoolExecutor
-from typing import Iterable, Iterator, Sequence
+from typing import Iterable, Iterator, Optional, Sequence
+from unittest import TestCase
 
+from fixtures import ProgramCase, add_tests, find_built, require_tool, temporary_folder
 from script import Run, Shape
-from tally import Tally
 
 HERE = pathlib.Path(__file__).parent
 COMPILER = os.environ.get("CC", "cc")
 REPORTED = "thpsplit: out of memory\n"
+GROWTHS = os.environ.get("GROWTHS", "memory::node_growths::put_back_without_memory")
 
 MOST = {
     "first script": 92_600,
@@ -58,33 +54,11 @@ SECTIONS = {
 LONG = {caller: ["count 0"] * 5000 for caller in (1, 2, 3)}
 
 
-def main() -> None:
-    """Makes allocations fail, and counts the cases and tests in which no run ended wrong."""
-    if len(sys.argv) < 2:
-        sys.exit(__doc__)
-    tally = Tally(is_brief=True)
-    if shutil.which(COMPILER.split()[0]) is None:
-        tally.skip("growths of memory refused", f"no C compiler, {COMPILER} isn't there")
-        tally.end()
-    program, *tests = sys.argv[1:]
-    with tempfile.TemporaryDirectory() as folder:
-        refuser = Refuser(pathlib.Path(folder))
-        for case in cases():
-            tally.run(case[0], lambda: failure(try_case(refuser, program, *case)))
-        for named in tests:
-            tally.run(named, lambda: failure(try_tests(refuser, named)))
-    tally.end()
-
-
-def failure(wrong: int) -> str | None:
-    """The entry in a tally for this many runs that ended wrong."""
-    return f"{wrong} runs ended wrong" if wrong else None
-
-
 class Refuser:
     """Runs programs with one allocation or one start of a thread made to fail."""
 
     def __init__(self, folder: pathlib.Path) -> None:
+        require_tool(COMPILER.split()[0])
         self.folder, self.library = folder, folder / "refuse.so"
         words = [*COMPILER.split(), "-O2", "-shared", "-fPIC", "-o", str(self.library), str(HERE / "refuse.c"), "-ldl"]
         subprocess.run(words, check=True)
@@ -143,49 +117,58 @@ def joined(lines: Iterable[str]) -> str:
     return "".join(line + "\n" for line in lines)
 
 
-def try_case(refuser: Refuser, program: str, name: str, options: list[str], text: str, wanted: str) -> int:
-    """Runs the program with each allocation and each thread made to fail; returns the number of these runs that ended wrong."""
+class Program(ProgramCase):
+    """`thpsplit` with each allocation and each thread made to fail."""
 
-    def kind(ran: Ran) -> str:
-        reported = (ran.returncode, ran.stdout, ran.stderr)
-        return {(3, "", REPORTED): "reported", (0, wanted, ""): "whole"}.get(reported, "wrong")
+    refuser: Refuser
 
-    wrong, parts = 0, []
-    requested = refuser.run([program, *options], text)[3]
-    if requested > MOST[name]:
-        print(f"{name}: {requested} bytes requested, above {MOST[name]}", flush=True)
-        wrong += 1
-    growths, starts = refuser.each([program, *options], text)
-    for what, whole, runs in (("growths", "met by less", growths), ("threads", "done without", starts)):
-        counts = Counter(map(kind, runs))
-        reported = f"{counts['reported']} reported, {counts['whole']} {whole}, {counts['wrong']} wrong"
-        parts.append(f"{len(runs)} {what} refused: {reported}")
-        wrong += counts["wrong"]
-    print(f"{name}: {'; '.join(parts)}", flush=True)
-    return wrong
+    @classmethod
+    def setUpClass(cls) -> None:
+        """Builds what refuses memory, too."""
+        super().setUpClass()
+        cls.refuser = Refuser(temporary_folder(cls))
 
+    def check(self, case: Case) -> Optional[str]:
+        """Returns the number of runs of a case that ended wrong, or of bytes that are too many; or None."""
+        name, options, text, wanted = case
 
-def try_tests(refuser: Refuser, tests: str) -> int:
-    """Runs each test with each allocation and each thread made to fail; returns the number of these runs that failed."""
-    path, _, front = tests.partition(":")
-    listed = subprocess.run([path, "--list"], capture_output=True, text=True, check=True).stdout
-    failed = 0
-    calls: Counter[str] = Counter()
-    names = [name for name in re.findall(r"^(.*): test$", listed, re.MULTILINE) if name.startswith(front)]
-    if not names:
-        sys.exit(f"{path} has no test {front}")
-    for name in names:
-        growths, starts = refuser.each([path, name], "")
-        bad = [number for number, ran in enumerate(growths + starts, 1) if ran.returncode]
-        for ran in growths:
-            calls.update(re.findall(r"^refused: (.*)$", ran.stdout, re.MULTILINE))
-        counts = f"{len(growths)} growths and {len(starts)} threads refused"
-        print(f"{name}: {counts}, {len(bad)} failed {bad[:5]}", flush=True)
-        failed += len(bad)
-    for call, count in sorted(calls.items()):
-        print(f"  {call} was refused {count} times")
-    return failed
+        def kind(ran: Ran) -> str:
+            reported = (ran.returncode, ran.stdout, ran.stderr)
+            return {(3, "", REPORTED): "reported", (0, wanted, ""): "whole"}.get(reported, "wrong")
+
+        command, parts, wrong = [str(self.program), *options], [], 0
+        requested = self.refuser.run(command, text)[3]
+        growths, starts = self.refuser.each(command, text)
+        for what, whole, runs in (("growths", "met by less", growths), ("threads", "done without", starts)):
+            counts = Counter(map(kind, runs))
+            parts.append(f"{len(runs)} {what} refused: {counts['reported']} reported, {counts['whole']} {whole}, {counts['wrong']} wrong")
+            wrong += counts["wrong"]
+        print(f"{name}: {'; '.join(parts)}", flush=True)
+        if requested > MOST[name]:
+            return f"{requested} bytes requested, above {MOST[name]}, and {wrong} runs ended wrong"
+        return f"{wrong} runs ended wrong" if wrong else None
 
 
-if __name__ == "__main__":
-    main()
+class BuiltTests(TestCase):
+    """Built tests of crates/tests_spoilt."""
+
+    def test_each_test_passes_without_memory(self) -> None:
+        """No test fails with any of its allocations and threads made to fail."""
+        path, refuser = str(find_built("TESTS_SPOILT")), Refuser(temporary_folder(self))
+        listed = subprocess.run([path, "--list"], capture_output=True, text=True, check=True).stdout
+        calls: Counter[str] = Counter()
+        names = [name for name in re.findall(r"^(.*): test$", listed, re.MULTILINE) if name.startswith(GROWTHS)]
+        self.assertTrue(names, f"{path} has no test {GROWTHS}")
+        for name in names:
+            with self.subTest(name):
+                growths, starts = refuser.each([path, name], "")
+                bad = [number for number, ran in enumerate(growths + starts, 1) if ran.returncode]
+                for ran in growths:
+                    calls.update(re.findall(r"^refused: (.*)$", ran.stdout, re.MULTILINE))
+                print(f"{name}: {len(growths)} growths and {len(starts)} threads refused, {len(bad)} failed", flush=True)
+                self.assertFalse(bad)
+        for call, count in sorted(calls.items()):
+            print(f"  {call} was refused {count} times")
+
+
+add_tests(Program, Program.check, ((case[0], case) for case in cases()))

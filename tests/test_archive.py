@@ -3,23 +3,24 @@
 `rt ci` proves crates/thp_c from scratch, but builds nothing of it, and `rt lib` would prove all libraries below it again. The
 crate only has the exports, so the second proof is short. One process makes it: several take more processor time. The build begins
 with the work that `rt check`, or an earlier build, kept in the crate's folder, so it proves nothing again that has not changed. The
-verdict on the crate's proof is that of `rt ci` only, where there is one.
-
-    python3 tests/archive.py TO
+verdict on the crate's proof is that of `rt ci` only, where there is one. BUILD_LIBTHP_C names the archive to build, from the top of the
+repository.
 """
 
 from __future__ import annotations
 
+import os
 import shutil
 import subprocess
 import sys
 from pathlib import Path
+from unittest import SkipTest, TestCase
 
-ROOT = Path(__file__).resolve().parent.parent
+from fixtures import ROOT
+
 sys.path.insert(0, str(ROOT))
 
 from prove import below, files, is_built, keep_verdict, library, listed, sources, stands  # noqa: E402
-from tally import Missing, Tally  # noqa: E402
 
 NAME = "thp_c"
 
@@ -56,7 +57,7 @@ def build(to: Path) -> str | None:
     """Proves and builds the archive; returns the compiler's output if that fails."""
     rt = shutil.which("rt")
     if rt is None:
-        raise Missing("rt isn't on the path")
+        raise SkipTest("rt isn't on the path")
     others = [name for name in below(NAME) if not (is_built(name, library(name)) or stands(name) or is_placed(name))]
     if others:
         return f"no library of the present sources: {', '.join(others)}"
@@ -71,12 +72,10 @@ def build(to: Path) -> str | None:
     return None
 
 
-def main() -> None:
-    """Builds the archive, which counts as one test."""
-    tally = Tally()
-    tally.run("the archive of the library for C", lambda: build((ROOT / sys.argv[1]).resolve()))
-    tally.end()
+class Archive(TestCase):
+    """The archive is built."""
 
-
-if __name__ == "__main__":
-    main()
+    def test_archive_of_library_is_built(self) -> None:
+        if not os.environ.get("BUILD_LIBTHP_C"):
+            raise SkipTest("BUILD_LIBTHP_C=PATH builds the archive of the library for C there")
+        self.assertIsNone(build((ROOT / os.environ["BUILD_LIBTHP_C"]).resolve()))

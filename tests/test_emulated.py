@@ -1,30 +1,26 @@
 """What release/aarch64.py builds, under qemu: the tests of the library in C, those of the programs, and random inputs.
 
-    python3 tests/emulated.py [--cases N] [--seed S]
-
-N is the number of random cases (default 2,000). Status 77 with one line if this machine lacks the compiler, qemu, or the built files.
-Rows that bound memory are named and skipped, since the bound would be the emulator's.
+THOROUGH=1 asks for these tests; CASES (default 2,000) random cases are from SEED (default 1). All is skipped if this machine lacks the
+compiler, qemu, or the built files. Rows that bound memory are named and skipped, since the bound would be the emulator's.
 """
 
 from __future__ import annotations
 
-import argparse
 import os
 import shutil
 import subprocess
 import sys
-import tempfile
-from functools import partial
 from pathlib import Path
+from unittest import SkipTest, TestCase
 
-ROOT = Path(__file__).resolve().parent.parent
+from command import called
+from fixtures import ROOT, add_tests, require_thorough, temporary_folder
+from test_library import ASKED, C, DEMOS, HOST_WORDS, TESTS, header, symbol_versions
+
 sys.path[:0] = [str(ROOT), str(ROOT / "release")]
 
-from command import called  # noqa: E402
-from library import ASKED, C, DEMOS, HOST_WORDS, TESTS, header, symbol_versions  # noqa: E402
 from platforms import ARM64  # noqa: E402
 from protection import weaknesses  # noqa: E402
-from tally import SKIPPED, Tally  # noqa: E402
 
 QEMU = "qemu-aarch64-static"
 LIBRARIES = "/usr/aarch64-linux-gnu"
@@ -62,27 +58,38 @@ def emulated(*words: str | Path) -> list[str]:
     return [QEMU, "-L", LIBRARIES, *map(str, words)]
 
 
-class Emulated:
+class Emulated(TestCase):
     """The library for the platform, and the programs as this machine can run them, in a folder."""
 
-    def __init__(self, folder: Path) -> None:
-        self.folder = folder
+    folder: Path
+    wrong: str | None
+
+    @classmethod
+    def setUpClass(cls) -> None:
+        """Builds the library, and writes scripts that run the programs; or skips the tests."""
+        require_thorough()
+        lacks = missing()
+        if lacks:
+            raise SkipTest(lacks)
+        cls.folder = temporary_folder(cls)
         for name in PROGRAMS:
-            path = folder / name
+            path = cls.folder / name
             path.write_text(f'#!/bin/sh\nexec {" ".join(emulated(built(name)))} "$@"\n')
             path.chmod(0o755)
+        cls.wrong = called(["make", "-s", "all", f"ARCHIVE={built('thp_c')}", f"OUT={cls.folder}", *ARM64.variables()], C)
 
-    def libraries(self) -> str | None:
+    def test_libraries(self) -> None:
         """libthp.a and libthp.so are built for the platform, protected, and ask for memory alone."""
-        wrong = called(["make", "-s", "all", f"ARCHIVE={built('thp_c')}", f"OUT={self.folder}", *ARM64.variables()], C)
-        if wrong:
-            return wrong
+        self.assertIsNone(self.wrong)
         shown = {}
         for words in (["-D", "--defined-only"], ["-D", "--undefined-only"]):
             text = subprocess.run([ARM64.tool("nm"), *words, self.folder / "libthp.so"], capture_output=True, text=True, check=True).stdout
             shown[words[1]] = {line.split()[-1].partition("@")[0] for line in text.splitlines() if " w " not in line}
         names = (shown["--defined-only"] - {*symbol_versions()}) ^ {*header()}
-        return ", ".join(sorted(names | (shown["--undefined-only"] - ASKED))) or ", ".join(weaknesses(self.folder / "libthp.so")) or None
+        self.assertEqual(sorted(names | (shown["--undefined-only"] - ASKED)) + weaknesses(self.folder / "libthp.so"), [])
+
+    def test_what_the_programs_ask_of_c(self) -> None:
+        self.assertIsNone(self.run_c(["tests/host.c", "host.c"], *HOST_WORDS))
 
     def run_c(self, sources: list[str | Path], *words: str) -> str | None:
         """A program in C is built with the library, or with nothing else, and run with these words."""
@@ -91,8 +98,13 @@ class Emulated:
         wrong = called([ARM64.tool("cc"), *flags, *sources, "-o", program], C)
         return wrong or called(emulated(program, *words), self.folder)
 
-    def script(self, name: str, program: str, *words: str) -> str | None:
-        """A script of tests passes on a program; what it reports of rows that fail, or None."""
+    def check_source(self, source: str) -> str | None:
+        """Returns what is wrong with a test in C of the library, or None."""
+        return self.run_c([source, self.folder / "libthp.a"])
+
+    def check_script(self, row: tuple[str, ...]) -> str | None:
+        """Returns what a script of tests reports of rows that fail on a program, or None."""
+        name, program, *words = row
         path = str(self.folder / program)
         given = ["run.py", "-p", name] if name.startswith("test_") else [name, path, *words]
         done = subprocess.run([sys.executable, *given], cwd=ROOT / "tests", capture_output=True, text=True, errors="replace",
@@ -103,30 +115,10 @@ class Emulated:
         return None if done.returncode == 0 else f"status {done.returncode}: {' '.join(failed[:3] or lines[-3:])[-600:]}"
 
 
-def main() -> None:
-    """Runs all tests."""
-    words = argparse.ArgumentParser(description=__doc__, formatter_class=argparse.RawDescriptionHelpFormatter)
-    words.add_argument("--cases", type=int, default=2000)
-    words.add_argument("--seed", type=int, default=1)
-    asked = words.parse_args()
-    lacks = missing()
-    if lacks:
-        print(f"{ARM64.name}: skipped: {lacks}")
-        sys.exit(SKIPPED)
-    tally = Tally()
-    with tempfile.TemporaryDirectory(prefix="thp-aarch64-") as name:
-        it = Emulated(Path(name))
-        tally.run("libraries: names, protection, what they ask for", it.libraries)
-        tally.run("what the programs ask of C", partial(it.run_c, ["tests/host.c", "host.c"], *HOST_WORDS))
-        for source in (*TESTS, *DEMOS):
-            tally.run(source, partial(it.run_c, [source, it.folder / "libthp.a"]))
-        for program, scripts in SCRIPTS.items():
-            for script in scripts:
-                tally.run(f"{script} {program}", partial(it.script, script, program))
-        more = ["--cases", str(asked.cases), "--seed", str(asked.seed), "--jobs", str(len(os.sched_getaffinity(0)))]
-        tally.run(f"{asked.cases} random cases", partial(it.script, "fuzz.py", "thpsplit", *more))
-    tally.end()
+RANDOM = ("--cases", os.environ.get("CASES", "2000"), "--seed", os.environ.get("SEED", "1"), "--jobs", str(len(os.sched_getaffinity(0))))
+"""The words of the script for random cases."""
 
-
-if __name__ == "__main__":
-    main()
+add_tests(Emulated, Emulated.check_source, ((source, source) for source in (*TESTS, *DEMOS)))
+add_tests(Emulated, Emulated.check_script,
+          ((f"{name} {program}", (name, program)) for program, names in SCRIPTS.items() for name in names))
+add_tests(Emulated, Emulated.check_script, [("random cases", ("fuzz.py", "thpsplit", *RANDOM))])

@@ -1,10 +1,8 @@
 """Bugs in the parts of the library that no proof sees: each is injected into a copy of the tree, where a test must refuse it.
 
-    python3 tests/injected_bugs.py ARCHIVE [WORD]
-
-ARCHIVE is the result of `rt lib` for crates/thp_c. The bugs are in the header, the texts of codes, the mark of cells, the build, the
-cargo crates, and the Debian packages, which are built with stand-ins for the programs; tests/wrong_boundary.py has those of the readers
-and creates. With WORD only bugs whose name has it are tried.
+LIBTHP_C names the archive; THOROUGH=1 asks for these tests. The bugs are in the header, the texts of codes, the mark of cells, the
+build, the cargo crates, and the Debian packages, which are built with stand-ins for the programs; tests/test_wrong_boundary.py has those
+of the readers and creates.
 """
 
 from __future__ import annotations
@@ -14,15 +12,14 @@ import re
 import shutil
 import subprocess
 import sys
-import tempfile
 from collections.abc import Callable
 from dataclasses import dataclass
 from functools import partial
 from pathlib import Path
+from unittest import SkipTest, TestCase
 
-from tally import Missing, Tally
+from fixtures import ROOT, add_tests, find_built, require_thorough, require_tool, temporary_folder
 
-ROOT = Path(__file__).resolve().parent.parent
 SECONDS = 300
 """The greatest time that one command may take."""
 
@@ -104,68 +101,60 @@ BUGS = (
 )
 """All of them."""
 
-LIBRARY = """import sys; sys.path.insert(0, "tests")
-from pathlib import Path
-from library import Built
-built = Built(Path(sys.argv[1]), Path(sys.argv[2]))
-sys.exit(built.libraries() or built.{}())"""
-"""A program that builds the library in a copy and makes one of its tests."""
-
-PACKAGES = """import sys; sys.path.insert(0, "tests")
-from pathlib import Path
-from package import built, fields_differ, library_differs, needs_differ
-*files, folder = map(Path, sys.argv[1:])
-made = built(files, folder)
-sys.exit(fields_differ(made) or library_differs(made, folder) or needs_differ(made, folder))"""
-"""A program that builds the Debian packages in a copy and makes three of their tests."""
-
 STAND_IN = "#include <stdio.h>\nint main(void) { return puts(\"\") < 0; }\n"
 """The source of a stand-in for a program."""
 
 
-class Copy:
-    """A copy of the tree without bugs, in a folder, with the library in `built`."""
+class InjectedBugs(TestCase):
+    """A copy of the tree without bugs, with the library in `built`; a test of it must refuse each bug."""
 
-    def __init__(self, archive: Path, folder: Path) -> None:
-        self.archive, self.tree, self.built = archive, folder / "tree", folder / "built"
+    archive: Path
+    folder: Path
+    tree: Path
+    built: Path
+
+    @classmethod
+    def setUpClass(cls) -> None:
+        """Makes the copy and builds the library."""
+        require_thorough()
+        require_tool("git")
+        if not (ROOT / ".git").exists():
+            raise SkipTest("no checkout of git")
+        cls.archive, cls.folder = find_built("LIBTHP_C"), temporary_folder(cls)
+        cls.tree, cls.built = cls.folder / "tree", cls.folder / "built"
         command = ["git", "ls-files", "-co", "--exclude-standard"]
         for name in subprocess.run(command, cwd=ROOT, capture_output=True, text=True, check=True).stdout.splitlines():
             if (ROOT / name).is_file() and not re.match(UNREAD, name):
-                (self.tree / name).parent.mkdir(parents=True, exist_ok=True)
-                shutil.copy(ROOT / name, self.tree / name)
-        self.built.mkdir()
-        self.stand_in = folder / "program"
+                (cls.tree / name).parent.mkdir(parents=True, exist_ok=True)
+                shutil.copy(ROOT / name, cls.tree / name)
+        cls.built.mkdir()
+        cls.ends("make", "-s", "-C", "c", "all", f"ARCHIVE={cls.archive}", f"OUT={cls.built}")
 
-    def ends(self, *command: str | Path, where: str = "") -> bool:
+    @classmethod
+    def ends(cls, *command: str | Path, where: str = "", **more: str) -> bool:
         """Whether a command in the copy ends well."""
-        if shutil.which(str(command[0])) is None and not Path(command[0]).exists():
-            raise Missing(f"no {command[0]} here")
-        variables = {"THP_LIB": str(self.built), "TSAN_OPTIONS": f"suppressions={self.tree}/c/tsan.supp"}
+        if not Path(command[0]).exists():
+            require_tool(str(command[0]))
+        own = {"THP_LIB": str(cls.built), "TSAN_OPTIONS": f"suppressions={cls.tree}/c/tsan.supp", "LIBTHP_C": str(cls.archive)}
         try:
-            done = subprocess.run([str(word) for word in command], cwd=self.tree / where, env={**os.environ, **variables}, timeout=SECONDS,
+            done = subprocess.run([str(word) for word in command], cwd=cls.tree / where, env={**os.environ, **own, **more}, timeout=SECONDS,
                                   capture_output=True, check=False)
         except subprocess.TimeoutExpired:
             return False
         return done.returncode == 0
 
-    def texts(self) -> bool:
-        """Whether the tests that need no archive pass."""
-        return self.ends(sys.executable, "tests/library.py")
-
-    def of_built(self, test: str) -> bool:
-        """Whether a test of the built library passes."""
-        with tempfile.TemporaryDirectory(dir=self.built.parent) as room:
-            return self.ends(sys.executable, "-c", LIBRARY.format(test), self.archive, room)
+    def of_file(self, name: str, *tests: str, **more: str) -> bool:
+        """Whether tests of a file pass, and none is skipped."""
+        return self.ends(sys.executable, "tests/run.py", "-p", name, *(word for it in tests for word in ("-k", it)), STRICT="1", **more)
 
     def packages(self) -> bool:
         """Whether tests of the Debian packages pass."""
-        if shutil.which("dh") is None:
-            raise Missing("no debhelper here")
-        source = self.stand_in.with_suffix(".c")
+        require_tool("dh")
+        stand_in, source = self.folder / "program", self.folder / "program.c"
         source.write_text(STAND_IN)
-        self.ends("cc", "-g", source, "-o", self.stand_in)
-        with tempfile.TemporaryDirectory(dir=self.built.parent) as room:
-            return self.ends(sys.executable, "-c", PACKAGES, *3 * [self.stand_in], self.archive, room)
+        self.ends("cc", "-g", source, "-o", stand_in)
+        return self.of_file("test_package.py", "versions", "requirements", "needs", THPSPLIT=str(stand_in), THPCHECK=str(stand_in),
+                            THPDRAW=str(stand_in))
 
     def marks(self, *flags: str) -> bool | None:
         """Whether cells are distinguished; None if the test isn't built."""
@@ -182,12 +171,17 @@ class Copy:
     def passes(self, test: str) -> bool | None:
         """Whether a test passes on the copy; None if it isn't built."""
         tests: dict[str, Callable[[], bool | None]] = {
-            "texts": self.texts, "elf": partial(self.of_built, "header_of_elf"), "installed": partial(self.of_built, "installed"),
+            "texts": partial(self.of_file, "test_library.py", "Texts"), "elf": partial(self.of_file, "test_library.py", "soname"),
+            "installed": partial(self.of_file, "test_library.py", "what_is_installed"),
             "packages": self.packages, "marks": self.marks, "races": partial(self.marks, "-fsanitize=thread"),
             "documents": partial(self.crates, "--doc"),
             "memory": partial(self.crates, "--test", "memory"), "calls": partial(self.crates, "--test", "node", "--test", "pass"),
         }
         return tests[test]()
+
+    def fails_without_bug(self, test: str) -> str | None:
+        """Returns what is wrong where a test fails without a bug."""
+        return None if self.passes(test) else "the test fails"
 
     def survives(self, wrong: Bug) -> str | None:
         """What is wrong where the test of a bug passes with it."""
@@ -200,25 +194,5 @@ class Copy:
             path.write_text(text)
 
 
-def main() -> None:
-    """Injects each of them, after each test has passed without."""
-    words = sys.argv[1:]
-    if len(words) not in (1, 2) or not Path(words[0]).is_file():
-        sys.exit(__doc__)
-    bugs = [it for it in BUGS if words[-1] in it.name or len(words) == 1]
-    tally = Tally(is_brief=True)
-    if not (ROOT / ".git").exists() or shutil.which("git") is None:
-        tally.skip("injected bugs", "no checkout of git")
-        tally.end()
-    with tempfile.TemporaryDirectory(prefix="thp-injected-") as name:
-        copy = Copy(Path(words[0]).resolve(), Path(name))
-        copy.ends("make", "-s", "-C", "c", "all", f"ARCHIVE={copy.archive}", f"OUT={copy.built}")
-        for test in dict.fromkeys(it.test for it in bugs):
-            tally.run(f"{test} without a bug", lambda: None if copy.passes(test) else "a test fails")
-        for it in bugs:
-            tally.run(it.name, partial(copy.survives, it))
-    tally.end()
-
-
-if __name__ == "__main__":
-    main()
+add_tests(InjectedBugs, InjectedBugs.fails_without_bug, ((f"{test} without a bug", test) for test in dict.fromkeys(it.test for it in BUGS)))
+add_tests(InjectedBugs, InjectedBugs.survives, ((f"refused: {it.name}", it) for it in BUGS))

@@ -1,9 +1,7 @@
 """The Debian packages: built twice from what was proved, checked by lintian, installed in a clean root, tried there, and removed.
 
-    tests/package.py THPSPLIT THPCHECK THPDRAW ARCHIVE
-
-ARCHIVE is that of the library for C. Status 77 with one line if this machine lacks Debian's tools for packages. Nothing is
-installed on the machine itself.
+THPSPLIT, THPCHECK, THPDRAW and LIBTHP_C name the built files. All is skipped if this machine lacks Debian's tools for packages. Nothing
+is installed on the machine itself.
 """
 
 from __future__ import annotations
@@ -16,20 +14,21 @@ import shutil
 import subprocess
 import sys
 import tarfile
-import tempfile
 from pathlib import Path
 from typing import Optional
+from unittest import SkipTest, TestCase
 
-ROOT = Path(__file__).resolve().parent.parent
+from fixtures import ROOT, find_built, require_tool, temporary_folder
+from process import Call, Ended, run
+from run import SKIPPED
+from tables import table
+from test_installed import HELPERS, OVER_LIBTHP
+from test_library import elf_differs, header, soname, version
+
 sys.path[:0] = [str(ROOT / "debian"), str(ROOT / "release")]
 
 from build import PARTS  # noqa: E402
-from library import elf_differs, header, soname, version  # noqa: E402
-from process import Call, Ended, run  # noqa: E402
 from protection import is_elf, is_stripped, weaknesses  # noqa: E402
-from tables import table  # noqa: E402
-from tally import SKIPPED, Missing, Tally  # noqa: E402
-from test_installed import HELPERS, OVER_LIBTHP  # noqa: E402
 
 FIRST, LEGAL = ROOT / "examples/first.script", ROOT / "examples/two_workers.journal"
 ADMIN = "var/lib/dpkg"
@@ -78,9 +77,8 @@ def built(files: list[Path], folder: Path, tree: Path = ROOT, **more: str) -> li
     command = [sys.executable, *map(str, (tree / "debian/build.py", "--proof", proof, *(file.resolve() for file in files), folder))]
     done = subprocess.run(command, capture_output=True, text=True, cwd=tree, env={**os.environ, **more})
     if done.returncode == SKIPPED:
-        raise Missing(done.stdout.strip())
-    if done.returncode != 0:
-        sys.exit(f"{done.stdout}{done.stderr}")
+        raise SkipTest(done.stdout.strip())
+    assert done.returncode == 0, f"{done.stdout}{done.stderr}"
     return [Path(line) for line in done.stdout.splitlines()]
 
 
@@ -119,10 +117,10 @@ def dates_differ(packages: list[Path]) -> Optional[str]:
     if not wanted:
         command = ["git", "log", "-1", "--format=%ct"]
         if not (ROOT / ".git").exists() or shutil.which("git") is None:
-            raise Missing("no git, or no commit")
+            raise SkipTest("no git, or no commit")
         wanted = subprocess.run(command, cwd=ROOT, capture_output=True, text=True).stdout.strip()
         if not wanted:
-            raise Missing("git names no commit")
+            raise SkipTest("git names no commit")
     return ", ".join(f"{path.name}: {dated(path)}" for path in packages if str(dated(path)) != wanted) or None
 
 
@@ -209,8 +207,7 @@ BINARIES = 4 + len(HELPERS) + len(OVER_LIBTHP)
 
 def binaries_differ(packages: list[Path], folder: Path) -> Optional[str]:
     """What the programs, helpers and libraries of the packages lack of protection; none has symbols, which are in packages apart."""
-    if shutil.which("readelf") is None:
-        raise Missing("no readelf here")
+    require_tool("readelf")
     wrong: list[str] = []
     (folder / "binaries").mkdir()
     for path in packages:
@@ -244,8 +241,7 @@ UNAVOIDED = "debug-file-with-no-debug-symbols"
 
 def lintian(packages: list[Path]) -> Optional[str]:
     """The errors and warnings of lintian, or None."""
-    if shutil.which("lintian") is None:
-        raise Missing("no lintian")
+    require_tool("lintian")
     command: list[str | Path] = ["lintian", "--fail-on", "error,warning", "--suppress-tags", UNAVOIDED, *packages]
     done = subprocess.run(command, capture_output=True, text=True)
     return None if done.returncode == 0 else done.stdout.strip()
@@ -327,30 +323,43 @@ def comes_and_goes(packages: list[Path], folder: Path) -> Optional[str]:
     return f"left: {', '.join(sorted(left))}" if left else None
 
 
-def main() -> None:
-    """Tests the packages of the files of the command line."""
-    files = [Path(word) for word in sys.argv[1:]]
-    if len(files) != 4 or not all(it.is_file() for it in files):
-        sys.exit(f"not three programs and an archive\n\n{__doc__}")
-    tally = Tally()
-    with tempfile.TemporaryDirectory(prefix="thp-package-") as name:
-        folder = Path(name)
-        try:
-            packages = built(files, folder)
-        except Missing as missing:
-            tally.skip("the packages", str(missing))
-            tally.end()
-        tally.run("names, versions and dependencies", lambda: fields_differ(packages))
-        tally.run("the library's files and requirements", lambda: library_differs(packages, folder))
-        tally.run("what a program needs that uses the library", lambda: needs_differ(packages, folder))
-        tally.run("dates are the commit's", lambda: dates_differ(packages))
-        tally.run("the same bytes from a second build", lambda: differ(packages, files, folder))
-        tally.run("protection of the binaries", lambda: binaries_differ(packages, folder))
-        tally.run("PROOF has their hashes", lambda: proofs_differ(packages, folder))
-        tally.run("lintian", lambda: lintian(packages))
-        tally.run("installed, tried and removed", lambda: comes_and_goes(packages, folder))
-    tally.end()
+class Packages(TestCase):
+    """The packages of the built files."""
 
+    files: list[Path]
+    folder: Path
+    packages: list[Path]
 
-if __name__ == "__main__":
-    main()
+    @classmethod
+    def setUpClass(cls) -> None:
+        """Builds the packages, or skips the tests."""
+        cls.files = [find_built(name) for name in ("THPSPLIT", "THPCHECK", "THPDRAW", "LIBTHP_C")]
+        cls.folder = temporary_folder(cls)
+        cls.packages = built(cls.files, cls.folder)
+
+    def test_names_versions_and_dependencies(self) -> None:
+        self.assertIsNone(fields_differ(self.packages))
+
+    def test_files_and_requirements_of_the_library(self) -> None:
+        self.assertIsNone(library_differs(self.packages, self.folder))
+
+    def test_what_a_program_needs_that_uses_the_library(self) -> None:
+        self.assertIsNone(needs_differ(self.packages, self.folder))
+
+    def test_dates_are_those_of_the_commit(self) -> None:
+        self.assertIsNone(dates_differ(self.packages))
+
+    def test_a_second_build_has_the_same_bytes(self) -> None:
+        self.assertIsNone(differ(self.packages, self.files, self.folder))
+
+    def test_protection_of_the_binaries(self) -> None:
+        self.assertIsNone(binaries_differ(self.packages, self.folder))
+
+    def test_proof_has_the_hashes_of_the_binaries(self) -> None:
+        self.assertIsNone(proofs_differ(self.packages, self.folder))
+
+    def test_lintian_finds_nothing(self) -> None:
+        self.assertIsNone(lintian(self.packages))
+
+    def test_installed_tried_and_removed(self) -> None:
+        self.assertIsNone(comes_and_goes(self.packages, self.folder))

@@ -1,10 +1,8 @@
 """Wrong bodies at the boundary of C: each is planted in c/thp.c or in the cargo crates, and a test must refuse it.
 
-    python3 tests/wrong_boundary.py ARCHIVE
-
-ARCHIVE is the result of `rt lib` for crates/thp_c. No proof sees these bodies. They concern the readers, whose results no later call
-shows, which create makes which kind of node, and each test of a pointer for null. In C the tests are c/tests/calls.c, passes.c and
-the program of null_pointers.py; in Rust those of the crate, if there is cargo.
+LIBTHP_C names the archive; THOROUGH=1 asks for these tests. No proof sees these bodies. They concern the readers, whose results
+no later call shows, which create makes which kind of node, and each test of a pointer for null. In C the tests are c/tests/calls.c,
+passes.c and the program of null_pointers.py; in Rust those of the crate, if there is cargo.
 """
 
 from __future__ import annotations
@@ -13,16 +11,13 @@ import os
 import re
 import shutil
 import subprocess
-import sys
-import tempfile
 from dataclasses import dataclass
-from functools import partial
 from pathlib import Path
+from unittest import TestCase
 
+from fixtures import ROOT, add_tests, find_built, require_thorough, require_tool, temporary_folder
 from null_pointers import null_tests, program_text
-from tally import Missing, Tally
 
-ROOT = Path(__file__).resolve().parent.parent
 SECONDS = 300
 
 
@@ -138,13 +133,21 @@ def ended(command: list[str | Path], where: Path, **more: str) -> int:
         return -1
 
 
-class Boundary:
+class Boundary(TestCase):
     """A copy of the library's C half and of the cargo crates, in a folder."""
 
-    def __init__(self, archive: Path, folder: Path) -> None:
-        self.archive, self.folder = archive, folder
+    archive: Path
+    folder: Path
+
+    @classmethod
+    def setUpClass(cls) -> None:
+        """Copies them, and builds the library."""
+        require_thorough()
+        require_tool("gcc")
+        cls.archive, cls.folder = find_built("LIBTHP_C"), temporary_folder(cls)
         for part in ("c", "rust"):
-            shutil.copytree(ROOT / part, folder / part, ignore=shutil.ignore_patterns("out", "target"))
+            shutil.copytree(ROOT / part, cls.folder / part, ignore=shutil.ignore_patterns("out", "target"))
+        ended(["make", "-s", "-C", "c", "all", f"ARCHIVE={cls.archive}"], cls.folder)
 
     def refuses_c(self) -> bool | None:
         """Whether a test in C fails on the copy; None if it isn't built."""
@@ -162,8 +165,7 @@ class Boundary:
 
     def refuses_rust(self) -> bool | None:
         """Whether a test of the crate fails on the copy; None if it isn't built."""
-        if shutil.which("cargo") is None:
-            raise Missing("no cargo here")
+        require_tool("cargo")
         words: list[str | Path] = ["cargo", "test", "--offline", "--quiet", "--target-dir", self.folder / "target"]
         words += ["--test", "node", "--test", "pass"]
         crate, where = self.folder / "rust", {"THP_LIB": str(self.folder / "c/out")}
@@ -186,20 +188,8 @@ class Boundary:
             return "it isn't built"
         return None if is_refused == (wrong is not None) else "no test refuses it" if wrong else "a test refuses the right bodies"
 
-
-def main() -> None:
-    """Plants each of them."""
-    if len(sys.argv) != 2 or not Path(sys.argv[1]).is_file():
-        sys.exit(__doc__)
-    archive, tally = Path(sys.argv[1]).resolve(), Tally(is_brief=True)
-    with tempfile.TemporaryDirectory(prefix="thp-boundary-") as name:
-        it = Boundary(archive, Path(name))
-        tally.run("the right bodies", partial(it.refuses, None))
-        ended(["make", "-s", "-C", "c", "all", f"ARCHIVE={archive}"], Path(name))
-        for wrong in WRONG:
-            tally.run(wrong.name(), partial(it.refuses, wrong))
-    tally.end()
+    def test_the_right_bodies_are_not_refused(self) -> None:
+        self.assertIsNone(self.refuses(None))
 
 
-if __name__ == "__main__":
-    main()
+add_tests(Boundary, Boundary.refuses, ((f"refused: {wrong.name()}", wrong) for wrong in WRONG))
