@@ -152,7 +152,7 @@ outside:
 	@$(if $(GIVEN),python3 tests/large.py $(GIVEN))
 	@$(if $(GIVEN),python3 tests/workers.py $(GIVEN))
 	@$(if $(GIVEN),python3 tests/streams.py $(GIVEN) || test $$? = 77)
-	@$(if $(wildcard $(CHECKER)),python3 tests/checker.py $(CHECKER))
+	@$(if $(wildcard $(CHECKER)),THPCHECK=$(CHECKER) python3 tests/run.py -p test_checker.py)
 	@$(if $(wildcard $(CHECKER)),python3 tests/streams.py $(CHECKER) || test $$? = 77)
 	@$(if $(and $(GIVEN),$(wildcard $(CHECKER))),python3 tests/repeats.py $(CHECKER) $(GIVEN))
 	@$(if $(wildcard $(DRAWER)),python3 tests/drawer.py $(DRAWER))

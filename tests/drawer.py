@@ -22,13 +22,13 @@ from xml.etree import ElementTree
 
 import faulty_texts
 import usage
-from checker import BEHIND, LONG, ROUNDS, SEVERAL
 from model import Node
 from outside import FEW_BYTES, FIRST, FIRST_JOURNAL, ILLEGAL, LEGAL, LOST, ROOT, STORED, Row, fails_with
 from process import Call, Ended, Sink, Source, run
 from progress import ASKED, Shown, lines
 from tables import Drawn, Waits, drawn_nodes, numbers, table, table_of
 from tally import Tally
+from test_checker import BEHIND, LONG, ROUNDS, SEVERAL
 
 HELP = (STORED / "drawer_help.txt").read_bytes()
 VERSION = (STORED / "drawer_version.txt").read_bytes()

@@ -224,7 +224,7 @@ def test_library(gate: Gate, programs: list[str], archives: list[str]) -> None:
 def test_journal_tools(gate: Gate, programs: list[str], checkers: list[str], drawers: list[str]) -> None:
     """Adds the tests of the programs for journals of any length."""
     for program in checkers:
-        gate.add_file("tests/checker.py", THPCHECK=program)
+        gate.add_file("tests/test_checker.py", THPCHECK=program)
         gate.add_file("tests/streams.py", THPCHECK=program)
     for program, player in zip(checkers, programs):
         gate.add_file("tests/repeats.py", THPCHECK=program, THPSPLIT=player)

@@ -36,7 +36,7 @@ SECONDS = 60
 def line(text: bytes, program: bytes = b"thpcheck") -> bytes:
     """The pattern of the line that a program shows after this prefix of a journal."""
     tenths = len(text) * 10 // 2**20
-    events = sum(it[:1].isdigit() for it in text.split(b"\n"))
+    events = len(re.findall(rb"^\d", text, re.M))
     reported = b"%s: %d.%d MiB, %d events, " % (program, *divmod(tenths, 10), events)
     return re.escape(REMOVAL + reported) + rb"\d+\.\d MiB/s"
 
