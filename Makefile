@@ -155,7 +155,7 @@ outside:
 	@$(if $(wildcard $(CHECKER)),THPCHECK=$(CHECKER) python3 tests/run.py -p test_checker.py)
 	@$(if $(wildcard $(CHECKER)),python3 tests/streams.py $(CHECKER) || test $$? = 77)
 	@$(if $(and $(GIVEN),$(wildcard $(CHECKER))),python3 tests/repeats.py $(CHECKER) $(GIVEN))
-	@$(if $(wildcard $(DRAWER)),python3 tests/drawer.py $(DRAWER))
+	@$(if $(wildcard $(DRAWER)),THPDRAW=$(DRAWER) python3 tests/run.py -p test_drawer.py)
 	@$(if $(wildcard $(DRAWER)),python3 tests/tables.py $(DRAWER) --seed $(SEED))
 	@$(if $(and $(GIVEN),$(wildcard $(CHECKER)),$(wildcard $(DRAWER)),$(wildcard $(ARCHIVE))),python3 tests/package.py $(GIVEN) $(CHECKER) $(DRAWER) $(ARCHIVE) || test $$? = 77)
 

@@ -229,7 +229,7 @@ def test_journal_tools(gate: Gate, programs: list[str], checkers: list[str], dra
     for program, player in zip(checkers, programs):
         gate.add_file("tests/repeats.py", THPCHECK=program, THPSPLIT=player)
     for program in drawers:
-        gate.add_file("tests/drawer.py", THPDRAW=program)
+        gate.add_file("tests/test_drawer.py", THPDRAW=program)
         gate.add_file("tests/tables.py", THPDRAW=program)
 
 
