@@ -16,7 +16,7 @@
 #               documents; ends in 'N passed, M failed'. A check whose tool is missing is named and not counted; STRICT=1
 #               counts it as failed
 # make outside: examples and documents only; with PROGRAM=path that program's statuses and outputs, large inputs, and wrong
-#               programs, which the tests must detect
+#               programs, which the tests must detect; SEED=s selects other random journals
 # make fuzz:    random scripts, journals and words: the program against a second implementation of the model in Python;
 #               CASES=n SEED=s; ends in a table of what was covered
 # make memory:  makes each allocation and each start of a thread fail in turn (needs a C compiler)
@@ -155,8 +155,7 @@ outside:
 	@$(if $(wildcard $(CHECKER)),THPCHECK=$(CHECKER) python3 tests/run.py -p test_checker.py)
 	@$(if $(wildcard $(CHECKER)),python3 tests/streams.py $(CHECKER) || test $$? = 77)
 	@$(if $(and $(GIVEN),$(wildcard $(CHECKER))),python3 tests/repeats.py $(CHECKER) $(GIVEN))
-	@$(if $(wildcard $(DRAWER)),THPDRAW=$(DRAWER) python3 tests/run.py -p test_drawer.py)
-	@$(if $(wildcard $(DRAWER)),python3 tests/tables.py $(DRAWER) --seed $(SEED))
+	@$(if $(wildcard $(DRAWER)),for name in drawer tables; do SEED=$(SEED) THPDRAW=$(DRAWER) python3 tests/run.py -p test_$$name.py || exit 1; done)
 	@$(if $(and $(GIVEN),$(wildcard $(CHECKER)),$(wildcard $(DRAWER)),$(wildcard $(ARCHIVE))),python3 tests/package.py $(GIVEN) $(CHECKER) $(DRAWER) $(ARCHIVE) || test $$? = 77)
 
 fuzz: run

@@ -230,7 +230,7 @@ def test_journal_tools(gate: Gate, programs: list[str], checkers: list[str], dra
         gate.add_file("tests/repeats.py", THPCHECK=program, THPSPLIT=player)
     for program in drawers:
         gate.add_file("tests/test_drawer.py", THPDRAW=program)
-        gate.add_file("tests/tables.py", THPDRAW=program)
+        gate.add_file("tests/test_tables.py", THPDRAW=program)
 
 
 def main() -> None:
