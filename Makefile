@@ -154,13 +154,13 @@ outside:
 	@$(if $(GIVEN),python3 tests/streams.py $(GIVEN) || test $$? = 77)
 	@$(if $(wildcard $(CHECKER)),THPCHECK=$(CHECKER) python3 tests/run.py -p test_checker.py)
 	@$(if $(wildcard $(CHECKER)),python3 tests/streams.py $(CHECKER) || test $$? = 77)
-	@$(if $(and $(GIVEN),$(wildcard $(CHECKER))),python3 tests/repeats.py $(CHECKER) $(GIVEN))
+	@$(if $(and $(GIVEN),$(wildcard $(CHECKER))),SEED=$(SEED) THPCHECK=$(CHECKER) THPSPLIT=$(GIVEN) python3 tests/run.py -p test_repeats.py)
 	@$(if $(wildcard $(DRAWER)),for name in drawer tables; do SEED=$(SEED) THPDRAW=$(DRAWER) python3 tests/run.py -p test_$$name.py || exit 1; done)
 	@$(if $(and $(GIVEN),$(wildcard $(CHECKER)),$(wildcard $(DRAWER)),$(wildcard $(ARCHIVE))),python3 tests/package.py $(GIVEN) $(CHECKER) $(DRAWER) $(ARCHIVE) || test $$? = 77)
 
 fuzz: run
 	@python3 tests/fuzz.py $(PROGRAM) $(if $(wildcard $(CHECKER)),--checker $(CHECKER)) --cases $(CASES) --seed $(SEED)
-	@$(if $(wildcard $(CHECKER)),python3 tests/repeats.py $(CHECKER) $(PROGRAM) --cases 10000 --seed $(SEED))
+	@$(if $(wildcard $(CHECKER)),CASES=10000 SEED=$(SEED) THPCHECK=$(CHECKER) THPSPLIT=$(PROGRAM) python3 tests/run.py -p test_repeats.py)
 
 memory: run
 	@cd crates/tests_spoilt && rt test

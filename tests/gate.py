@@ -227,7 +227,7 @@ def test_journal_tools(gate: Gate, programs: list[str], checkers: list[str], dra
         gate.add_file("tests/test_checker.py", THPCHECK=program)
         gate.add_file("tests/streams.py", THPCHECK=program)
     for program, player in zip(checkers, programs):
-        gate.add_file("tests/repeats.py", THPCHECK=program, THPSPLIT=player)
+        gate.add_file("tests/test_repeats.py", THPCHECK=program, THPSPLIT=player)
     for program in drawers:
         gate.add_file("tests/test_drawer.py", THPDRAW=program)
         gate.add_file("tests/test_tables.py", THPDRAW=program)
