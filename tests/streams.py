@@ -19,10 +19,10 @@ from dataclasses import dataclass
 from functools import partial
 from pathlib import Path
 
-from large import long_script, pinned_scans, words
 from outside import ILLEGAL, LEGAL
 from process import Call, Ended, Sink, Source, Word, run
 from tally import Missing, Tally
+from test_large import long_script, pinned_scans, words
 from texts import MOST_BYTES
 
 PART = 65_536

@@ -17,10 +17,10 @@ from functools import partial
 from pathlib import Path
 from typing import Optional, Sequence
 
-from large import CHECK, LEGAL, MOST_BATCH, MOST_WORKERS, SIZE, joined, pinned_scans, totals, words
 from process import Call, Ended, run
 from script import Run, Shape
 from tally import Tally
+from test_large import CHECK, LEGAL, MOST_BATCH, MOST_WORKERS, SIZE, joined, pinned_scans, totals, words
 
 Sections = dict[int, list[str]]
 """The commands of each caller; caller 0 executes `setup`."""
