@@ -147,9 +147,8 @@ GIVEN = $(if $(filter command% environment%,$(origin PROGRAM)),$(PROGRAM))
 
 outside:
 	@for name in docs surface installed release lint; do python3 tests/run.py -p test_$$name.py || test $$? = 77 || exit 1; done
-	@$(if $(GIVEN),for name in examples rows outside wrong_programs large; do THPSPLIT=$(GIVEN) python3 tests/run.py -p test_$$name.py || exit 1; done,TRY=1 python3 tests/run.py -p test_examples.py -k Examples || test $$? = 77)
+	@$(if $(GIVEN),for name in examples rows outside wrong_programs large workers; do THPSPLIT=$(GIVEN) python3 tests/run.py -p test_$$name.py || exit 1; done,TRY=1 python3 tests/run.py -p test_examples.py -k Examples || test $$? = 77)
 	@$(if $(GIVEN),python3 tests/spoilt.py $(GIVEN))
-	@$(if $(GIVEN),python3 tests/workers.py $(GIVEN))
 	@$(if $(GIVEN),python3 tests/streams.py $(GIVEN) || test $$? = 77)
 	@$(if $(wildcard $(CHECKER)),THPCHECK=$(CHECKER) python3 tests/run.py -p test_checker.py)
 	@$(if $(wildcard $(CHECKER)),python3 tests/streams.py $(CHECKER) || test $$? = 77)

@@ -43,7 +43,7 @@ CHECKERS = ("crates/thpcheck/out/thpcheck", "crates/thpcheck/out/thpcheck.by-rat
 DRAWERS = ("crates/thpdraw/out/thpdraw", "crates/thpdraw/out/thpdraw.by-rattle")
 """The same for the program that draws them."""
 
-BY_EACH = ("tests/test_examples.py", "tests/test_rows.py", "tests/test_outside.py", "tests/test_large.py", "tests/workers.py",
+BY_EACH = ("tests/test_examples.py", "tests/test_rows.py", "tests/test_outside.py", "tests/test_large.py", "tests/test_workers.py",
            "tests/streams.py")
 """The tests of a program."""
 
