@@ -149,9 +149,8 @@ outside:
 	@for name in docs surface installed release lint; do python3 tests/run.py -p test_$$name.py || test $$? = 77 || exit 1; done
 	@$(if $(GIVEN),for name in examples rows outside wrong_programs large workers; do THPSPLIT=$(GIVEN) python3 tests/run.py -p test_$$name.py || exit 1; done,TRY=1 python3 tests/run.py -p test_examples.py -k Examples || test $$? = 77)
 	@$(if $(GIVEN),python3 tests/spoilt.py $(GIVEN))
-	@$(if $(GIVEN),python3 tests/streams.py $(GIVEN) || test $$? = 77)
 	@$(if $(wildcard $(CHECKER)),THPCHECK=$(CHECKER) python3 tests/run.py -p test_checker.py)
-	@$(if $(wildcard $(CHECKER)),python3 tests/streams.py $(CHECKER) || test $$? = 77)
+	@$(if $(GIVEN)$(wildcard $(CHECKER)),THPSPLIT=$(GIVEN) THPCHECK=$(wildcard $(CHECKER)) python3 tests/run.py -p test_streams.py || test $$? = 77)
 	@$(if $(and $(GIVEN),$(wildcard $(CHECKER))),SEED=$(SEED) THPCHECK=$(CHECKER) THPSPLIT=$(GIVEN) python3 tests/run.py -p test_repeats.py)
 	@$(if $(wildcard $(DRAWER)),for name in drawer tables; do SEED=$(SEED) THPDRAW=$(DRAWER) python3 tests/run.py -p test_$$name.py || exit 1; done)
 	@$(if $(and $(GIVEN),$(wildcard $(CHECKER)),$(wildcard $(DRAWER)),$(wildcard $(ARCHIVE))),python3 tests/package.py $(GIVEN) $(CHECKER) $(DRAWER) $(ARCHIVE) || test $$? = 77)

@@ -15,9 +15,9 @@ import tty
 from dataclasses import dataclass
 from pathlib import Path
 from typing import Iterator, Optional
+from unittest import SkipTest
 
 from process import Call, Ended, Sink, Source, run, shown
-from tally import Missing
 
 ASKED = ("--progress",)
 REMOVAL = b"\r\x1b[K"
@@ -131,7 +131,7 @@ def terminal() -> tuple[int, int]:
     try:
         reader, writer = pty.openpty()
     except OSError as error:
-        raise Missing("no pseudo-terminal can be had") from error
+        raise SkipTest("no pseudo-terminal can be had") from error
     tty.setraw(writer)
     return reader, writer
 
