@@ -16,7 +16,7 @@
 #               documents; ends in 'N passed, M failed'. A check whose tool is missing is named and not counted; STRICT=1
 #               counts it as failed
 # make outside: examples and documents only; with PROGRAM=path that program's statuses and outputs, large inputs, and wrong
-#               programs, which the tests must detect
+#               programs, which the tests must detect; SEED=s selects other random journals
 # make fuzz:    random scripts, journals and words: the program against a second implementation of the model in Python;
 #               CASES=n SEED=s; ends in a table of what was covered
 # make memory:  makes each allocation and each start of a thread fail in turn (needs a C compiler)
@@ -147,20 +147,16 @@ GIVEN = $(if $(filter command% environment%,$(origin PROGRAM)),$(PROGRAM))
 
 outside:
 	@for name in docs surface installed release lint; do python3 tests/run.py -p test_$$name.py || test $$? = 77 || exit 1; done
-	@$(if $(GIVEN),for name in examples rows outside wrong_programs spoilt; do THPSPLIT=$(GIVEN) python3 tests/run.py -p test_$$name.py || exit 1; done,TRY=1 python3 tests/run.py -p test_examples.py -k Examples || test $$? = 77)
-	@$(if $(GIVEN),python3 tests/large.py $(GIVEN))
-	@$(if $(GIVEN),python3 tests/workers.py $(GIVEN))
-	@$(if $(GIVEN),python3 tests/streams.py $(GIVEN) || test $$? = 77)
-	@$(if $(wildcard $(CHECKER)),python3 tests/checker.py $(CHECKER))
-	@$(if $(wildcard $(CHECKER)),python3 tests/streams.py $(CHECKER) || test $$? = 77)
-	@$(if $(and $(GIVEN),$(wildcard $(CHECKER))),python3 tests/repeats.py $(CHECKER) $(GIVEN))
-	@$(if $(wildcard $(DRAWER)),python3 tests/drawer.py $(DRAWER))
-	@$(if $(wildcard $(DRAWER)),python3 tests/tables.py $(DRAWER) --seed $(SEED))
+	@$(if $(GIVEN),for name in examples rows outside wrong_programs spoilt large workers; do THPSPLIT=$(GIVEN) python3 tests/run.py -p test_$$name.py || exit 1; done,TRY=1 python3 tests/run.py -p test_examples.py -k Examples || test $$? = 77)
+	@$(if $(wildcard $(CHECKER)),THPCHECK=$(CHECKER) python3 tests/run.py -p test_checker.py)
+	@$(if $(GIVEN)$(wildcard $(CHECKER)),THPSPLIT=$(GIVEN) THPCHECK=$(wildcard $(CHECKER)) python3 tests/run.py -p test_streams.py || test $$? = 77)
+	@$(if $(and $(GIVEN),$(wildcard $(CHECKER))),SEED=$(SEED) THPCHECK=$(CHECKER) THPSPLIT=$(GIVEN) python3 tests/run.py -p test_repeats.py)
+	@$(if $(wildcard $(DRAWER)),for name in drawer tables; do SEED=$(SEED) THPDRAW=$(DRAWER) python3 tests/run.py -p test_$$name.py || exit 1; done)
 	@$(if $(and $(GIVEN),$(wildcard $(CHECKER)),$(wildcard $(DRAWER)),$(wildcard $(ARCHIVE))),THPSPLIT=$(GIVEN) THPCHECK=$(CHECKER) THPDRAW=$(DRAWER) LIBTHP_C=$(ARCHIVE) python3 tests/run.py -p test_package.py || test $$? = 77)
 
 fuzz: run
 	@python3 tests/fuzz.py $(PROGRAM) $(if $(wildcard $(CHECKER)),--checker $(CHECKER)) --cases $(CASES) --seed $(SEED)
-	@$(if $(wildcard $(CHECKER)),python3 tests/repeats.py $(CHECKER) $(PROGRAM) --cases 10000 --seed $(SEED))
+	@$(if $(wildcard $(CHECKER)),CASES=10000 SEED=$(SEED) THPCHECK=$(CHECKER) THPSPLIT=$(PROGRAM) python3 tests/run.py -p test_repeats.py)
 
 memory: run
 	@cd crates/tests_spoilt && rt test

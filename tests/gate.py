@@ -43,8 +43,7 @@ CHECKERS = ("crates/thpcheck/out/thpcheck", "crates/thpcheck/out/thpcheck.by-rat
 DRAWERS = ("crates/thpdraw/out/thpdraw", "crates/thpdraw/out/thpdraw.by-rattle")
 """The same for the program that draws them."""
 
-BY_EACH = ("tests/test_examples.py", "tests/test_rows.py", "tests/test_outside.py", "tests/large.py", "tests/workers.py",
-           "tests/streams.py")
+BY_EACH = ("tests/test_examples.py", "tests/test_rows.py", "tests/test_outside.py", "tests/test_large.py", "tests/test_workers.py")
 """The tests of a program."""
 
 EXAMPLES = ("tests/run.py", "-p", "test_examples.py", "-k", "Examples")
@@ -216,13 +215,13 @@ def test_library(gate: Gate, programs: list[str], archives: list[str]) -> None:
 def test_journal_tools(gate: Gate, programs: list[str], checkers: list[str], drawers: list[str]) -> None:
     """Adds the tests of the programs for journals of any length."""
     for program in checkers:
-        gate.add_file("tests/checker.py", THPCHECK=program)
-        gate.add_file("tests/streams.py", THPCHECK=program)
+        gate.add_file("tests/test_checker.py", THPCHECK=program)
     for program, player in zip(checkers, programs):
-        gate.add_file("tests/repeats.py", THPCHECK=program, THPSPLIT=player)
+        gate.add_file("tests/test_repeats.py", THPCHECK=program, THPSPLIT=player)
+        gate.add_file("tests/test_streams.py", THPCHECK=program, THPSPLIT=player)
     for program in drawers:
-        gate.add_file("tests/drawer.py", THPDRAW=program)
-        gate.add_file("tests/tables.py", THPDRAW=program)
+        gate.add_file("tests/test_drawer.py", THPDRAW=program)
+        gate.add_file("tests/test_tables.py", THPDRAW=program)
 
 
 def main() -> None:

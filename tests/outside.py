@@ -7,7 +7,7 @@ from __future__ import annotations
 from dataclasses import dataclass
 from functools import lru_cache
 from pathlib import Path
-from typing import Callable, Iterator, Optional
+from typing import Callable, Iterator, Optional, Union
 
 import faulty_texts
 import usage
@@ -48,12 +48,13 @@ class Row:
     group: str
     name: str
     call: Call
-    wanted: Ended
+    wanted: Union[Ended, Callable[[], Ended]]
+    """The result, or a function that computes it if that takes long."""
 
     def wrong(self, program: Path) -> Optional[str]:
         """What is wrong when the program makes the call, or None."""
         try:
-            return run(program, self.call).differs_from(self.wanted)
+            return run(program, self.call).differs_from(self.wanted if isinstance(self.wanted, Ended) else self.wanted())
         except ReadTooEarly:
             return "bytes of the input were read"
 

@@ -15,9 +15,9 @@ import tty
 from dataclasses import dataclass
 from pathlib import Path
 from typing import Iterator, Optional
+from unittest import SkipTest
 
 from process import Call, Ended, Sink, Source, run, shown
-from tally import Missing
 
 ASKED = ("--progress",)
 REMOVAL = b"\r\x1b[K"
@@ -36,7 +36,7 @@ SECONDS = 60
 def line(text: bytes, program: bytes = b"thpcheck") -> bytes:
     """The pattern of the line that a program shows after this prefix of a journal."""
     tenths = len(text) * 10 // 2**20
-    events = sum(it[:1].isdigit() for it in text.split(b"\n"))
+    events = len(re.findall(rb"^\d", text, re.M))
     reported = b"%s: %d.%d MiB, %d events, " % (program, *divmod(tenths, 10), events)
     return re.escape(REMOVAL + reported) + rb"\d+\.\d MiB/s"
 
@@ -131,7 +131,7 @@ def terminal() -> tuple[int, int]:
     try:
         reader, writer = pty.openpty()
     except OSError as error:
-        raise Missing("no pseudo-terminal can be had") from error
+        raise SkipTest("no pseudo-terminal can be had") from error
     tty.setraw(writer)
     return reader, writer
 

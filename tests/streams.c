@@ -1,5 +1,5 @@
 // Preloaded, it writes a line to the file that STREAMS_LOG names for each read and write of a program, in the form of strace:
-// `read(0, 65536) = 52`. tests/streams.py builds and uses it where strace is missing or may not trace.
+// `read(0, 65536) = 52`. tests/test_streams.py builds and uses it where strace is missing or may not trace.
 #define _GNU_SOURCE
 #include <errno.h>
 #include <fcntl.h>

@@ -15,8 +15,8 @@ import explanations
 import naming
 import outside
 import test_rows
+import test_workers
 import wording
-import workers
 import wrong_programs
 from believe import CLAIMED
 from believe import count as believed
@@ -320,7 +320,7 @@ class Testing(DocumentCase):
             r"`thpsplit`: (\d+) calls": len(outside.rows()),
             r"(\d+) wrong programs": len(wrong_programs.WRONG),
             r"(\d+) explained journals": len(explanations.EXPLAINED),
-            r"(\d+) scripts of workers": 2 * len(workers.SCRIPTS) + 3,
+            r"(\d+) scripts of workers": 2 * len(test_workers.SCRIPTS) + len(test_workers.CROWDS),
         }
         counts.update({rf"`{name}` \| (\d+) \|": count_tests(name) for name in known_crates() if count_tests(name)})
         wrong = []

@@ -10,7 +10,7 @@
 //!   text is a list of pieces (`element`), which one function appends.
 //! - `escaping` (`Escapes`): words as XML has them.
 //!
-//! docs/FORMATS.md has both formats; the stored pictures are compared by `tests/drawer.py`.
+//! docs/FORMATS.md has both formats; the stored pictures are compared by `tests/test_drawer.py`.
 #![tactic(auto)]
 
 mod area;

@@ -1,29 +1,20 @@
-"""The built program `thpcheck` from outside: each exit status, with the exact bytes of each stream.
-
-    tests/checker.py PROGRAM
-
-Its verdicts on journals are compared with those of `thpsplit --check`, for journals of any length.
-"""
+"""The built program `thpcheck` from outside: each exit status, with the exact bytes of each stream."""
 
 from __future__ import annotations
 
-import os
-import sys
-import tempfile
 from dataclasses import replace
 from functools import partial
-from pathlib import Path
-from typing import Iterator, Sequence
+from typing import Iterator, Optional, Sequence, Union
 
 import faulty_texts
 import progress
 import usage
 from explanations import EXPLAINED, Explained
 from faulty_texts import ONE
+from fixtures import ProgramCase, add_tests
 from outside import FEW_BYTES, FIRST, FIRST_JOURNAL, FIRST_TOTALS, ILLEGAL, LEGAL, LOST, STORED, Row, fails_with
 from process import Call, Ended, Sink, Source
 from script import first_illegal, summary
-from tally import Tally
 from texts import LARGE, MOST_BYTES, SMALL
 
 HELP = (STORED / "checker_help.txt").read_bytes()
@@ -112,13 +103,12 @@ def summaries() -> Iterator[Row]:
     for source in (Source.FILE, Source.PIPE):
         yield Row("summary", f"the first script's journal, {source.name.lower()}", Call(SUMMARY, FIRST_JOURNAL, source), Ended(0, totals))
     for text in (LEGAL, *(row.text + b"end\n" for row in EXPLAINED), SEVERAL):
-        yield Row("summary", repr(text[-60:]), Call(SUMMARY, text), summed(text))
+        yield Row("summary", repr(text[-60:]), Call(SUMMARY, text), partial(summed, text))
     both = SUMMARY + EXPLAIN
     for row in EXPLAINED[:3]:
         text = row.text + b"end\n"
-        yield Row("summary", f"explained, too: {text[-60:]!r}", Call(both, text), replace(summed(text), errors=row.lines()))
+        yield Row("summary", f"explained, too: {text[-60:]!r}", Call(both, text), partial(summed, text, row.lines()))
     yield Row("summary", "a fault behind an illegal event", Call(SUMMARY, EXPLAINED[0].text + b"fly\n"), fault(4, "bad-word"))
-    yield Row("summary", "behind 16 MiB", Call(SUMMARY, LONG + b"end\n", memory=FEW_BYTES), Ended(0, b"legal\n" + ONE_PAGE))
     for sink in LOST:
         yield Row("summary", f"standard output {sink.name.lower()}", Call(SUMMARY, LEGAL, output=sink), WRITE_FAILED)
 
@@ -168,8 +158,6 @@ def scripts() -> Iterator[Row]:
     yield Row("script", "a fault behind an illegal event", Call(SCRIPT, row.text + b"fly\n"), late)
     yield Row("script", "a fault", Call(SCRIPT, b"fly\n"), fault(1, "bad-word"))
     yield Row("script", "other flags", Call(SCRIPT + SUMMARY + ("--progress",), FIRST_JOURNAL), Ended(0, first))
-    rounds = OPTIONS_OF_ONE + b"alloc 0\n" + b"pin 0 0\nunpin 0 0\n" * ROUNDS
-    yield Row("script", "behind 16 MiB", Call(SCRIPT, LONG + b"end\n", memory=FEW_BYTES), Ended(0, rounds))
     yield Row("script", "no input", Call(SCRIPT, source=Source.CLOSED), READ_FAILED)
     for sink in LOST:
         yield Row("script", f"standard output {sink.name.lower()}", Call(SCRIPT, LEGAL, output=sink), WRITE_FAILED)
@@ -249,12 +237,14 @@ def checked_front(text: bytes) -> bytes:
     return OPTIONS_OF_ONE.replace(b"blocks 16", b"blocks " + blocks)
 
 
-def summed(text: bytes) -> Ended:
-    """The verdict on a journal without an error, and the totals of its nodes, by a plain reading of the model."""
+def summed(text: bytes, errors: bytes = b"") -> Ended:
+    """The verdict on a journal without an error with the totals of its nodes, by a plain reading of the model, and what standard error
+    gets."""
     lines = text.decode().splitlines()
     line = first_illegal(lines)
     totals = "".join(f"{it}\n" for it in summary(lines)).encode()
-    return Ended(0, b"legal\n" + totals) if line is None else Ended(1, is_illegal(line).output + totals)
+    verdict = IS_LEGAL if line is None else is_illegal(line)
+    return Ended(verdict.status, verdict.output + totals, errors)
 
 
 def faults() -> Iterator[Row]:
@@ -270,9 +260,12 @@ def faults() -> Iterator[Row]:
 
 def long_journals() -> Iterator[Row]:
     """Journals of more than 16 MiB, in memory that does not grow with them."""
+    legal = Call((), LONG + b"end\n", memory=FEW_BYTES)
     for source in (Source.FILE, Source.PIPE):
-        call = Call((), LONG + b"end\n", source, memory=FEW_BYTES)
-        yield Row("long", f"legal, {source.name.lower()}", call, IS_LEGAL)
+        yield Row("long", f"legal, {source.name.lower()}", replace(legal, source=source), IS_LEGAL)
+    yield Row("long", "legal, --summary", replace(legal, words=SUMMARY), Ended(0, b"legal\n" + ONE_PAGE))
+    rounds = OPTIONS_OF_ONE + b"alloc 0\n" + b"pin 0 0\nunpin 0 0\n" * ROUNDS
+    yield Row("long", "legal, --script", replace(legal, words=SCRIPT), Ended(0, rounds))
     illegal = LONG + b"0 unpin 0 stays -\n"
     yield Row("long", "illegal behind 16 MiB", Call((), illegal + b"end\n", memory=FEW_BYTES), is_illegal(BEHIND))
     yield Row("long", "a fault behind 16 MiB", Call((), LONG + b"fly\n"), fault(BEHIND, "bad-word"))
@@ -352,25 +345,21 @@ def shown() -> Iterator[progress.Shown | progress.Slow]:
     yield from progress.rows(LEGAL, LONG + b"end\n", row.text + b"end\n", row.lines())
 
 
-def main() -> None:
-    """Tests the program of the command line."""
-    program = Path(sys.argv[-1])
-    if len(sys.argv) < 2 or not os.access(program, os.X_OK) or program.is_dir():
-        sys.exit(f"{program} is no program\n\n{__doc__}")
-    tally = Tally(is_brief=True)
-    with tempfile.TemporaryDirectory() as name:
-        # its name is what it is called by, whatever its file's is
-        path = Path(name) / "thpcheck"
-        path.symlink_to(program.resolve())
-        for part in (
-            verdicts, explanations, summaries, scripts, script_limits, faults, long_journals, many_nodes, requests, failures, shown,
-        ):
-            rows, passed = list(part()), tally.passed
-            for row in rows:
-                tally.run(f"{row.group}: {row.name}", partial(row.wrong, path))
-            print(f"{rows[0].group}: {tally.passed - passed} of {len(rows)} calls", flush=True)
-    tally.end()
+class Checker(ProgramCase):
+    """Each call has the expected result."""
+
+    variable = "THPCHECK"
+
+    def check(self, row: Union[Row, progress.Shown, progress.Slow]) -> Optional[str]:
+        """Returns what is wrong when the program makes a call, or None."""
+        return row.wrong(self.program)
+
+    def test_journals_of_more_than_16_mib(self) -> None:
+        """Each of them is made when it is needed."""
+        for row in long_journals():
+            with self.subTest(row.name):
+                self.assertIsNone(self.check(row))
 
 
-if __name__ == "__main__":
-    main()
+for part in (verdicts, explanations, summaries, scripts, script_limits, faults, many_nodes, requests, failures, shown):
+    add_tests(Checker, Checker.check, ((f"{row.group}: {row.name}", row) for row in part()))

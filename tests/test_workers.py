@@ -1,7 +1,5 @@
 """Workers that close one node and hold batches of it concurrently, with the built program.
 
-    tests/workers.py PROGRAM
-
 A worker that finds the node busy postpones the rest of its section until the others are done. No report may show that: short
 scripts are compared with every order of their commands by the plain model, long ones with what every order has in common.
 """
@@ -9,18 +7,15 @@ scripts are compared with every order of their commands by the plain model, long
 from __future__ import annotations
 
 import copy
-import os
-import sys
 from collections import Counter
 from dataclasses import dataclass, field
-from functools import partial
 from pathlib import Path
-from typing import Optional, Sequence
+from typing import Callable, Optional, Sequence
 
-from large import CHECK, LEGAL, MOST_BATCH, MOST_WORKERS, SIZE, joined, pinned_scans, totals, words
+from fixtures import ProgramCase, add_tests
 from process import Call, Ended, run
 from script import Run, Shape
-from tally import Tally
+from test_large import CHECK, LEGAL, MOST_BATCH, MOST_WORKERS, SIZE, joined, pinned_scans, totals, words
 
 Sections = dict[int, list[str]]
 """The commands of each caller; caller 0 executes `setup`."""
@@ -256,19 +251,21 @@ def taker_journal(program: Path, script: bytes, tries: int) -> Optional[str]:
     return run(program, Call(CHECK, reported.output)).differs_from(LEGAL)
 
 
-def main() -> None:
-    """Tests the program of the command line."""
-    if len(sys.argv) != 2 or not os.access(sys.argv[1], os.X_OK):
-        sys.exit(__doc__)
-    program, tally = Path(sys.argv[1]), Tally()
-    for script in SCRIPTS:
-        for either in (script, script.mirrored()):
-            tally.run(either.name, partial(either.wrong, program))
-    tally.run("63 workers open empty batches and close", lambda: closers(program))
-    tally.run("63 workers put pages back, and one closes", lambda: droppers(program))
-    tally.run("63 workers take a page, find it pinned and put it back", lambda: takers(program))
-    tally.end()
+CROWDS: dict[str, Callable[[Path], Optional[str]]] = {
+    "63 workers open empty batches and close": closers,
+    "63 workers put pages back, and one closes": droppers,
+    "63 workers take a page, find it pinned and put it back": takers,
+}
+"""Long scripts."""
 
 
-if __name__ == "__main__":
-    main()
+class Workers(ProgramCase):
+    """Each script."""
+
+    def check(self, wrong: Callable[[Path], Optional[str]]) -> Optional[str]:
+        """Returns what is wrong with the reports of a script, or None."""
+        return wrong(self.program)
+
+
+add_tests(Workers, Workers.check, ((it.name, it.wrong) for script in SCRIPTS for it in (script, script.mirrored())))
+add_tests(Workers, Workers.check, CROWDS.items())

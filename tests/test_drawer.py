@@ -1,7 +1,5 @@
 """The built program `thpdraw` from outside: each exit status, with the exact bytes of each stream.
 
-    tests/drawer.py PROGRAM
-
 Tables are compared with those of tests/tables.py, a plain reading of the model. Pictures must be well-formed, contain only known
 elements and letters, and name each illegal event; those in docs/pictures are compared byte for byte.
 """
@@ -9,26 +7,23 @@ elements and letters, and name each illegal event; those in docs/pictures are co
 from __future__ import annotations
 
 import math
-import os
 import re
-import sys
-import tempfile
 from dataclasses import dataclass
 from functools import partial
 from itertools import combinations, groupby
 from pathlib import Path
-from typing import Callable, Iterator, Optional
+from typing import Callable, Iterator, Optional, Union
 from xml.etree import ElementTree
 
 import faulty_texts
 import usage
-from checker import BEHIND, LONG, ROUNDS, SEVERAL
+from fixtures import ProgramCase, add_tests
 from model import Node
 from outside import FEW_BYTES, FIRST, FIRST_JOURNAL, ILLEGAL, LEGAL, LOST, ROOT, STORED, Row, fails_with
 from process import Call, Ended, Sink, Source, run
 from progress import ASKED, Shown, lines
 from tables import Drawn, Waits, drawn_nodes, numbers, table, table_of
-from tally import Tally
+from test_checker import BEHIND, LONG, ROUNDS, SEVERAL
 
 HELP = (STORED / "drawer_help.txt").read_bytes()
 VERSION = (STORED / "drawer_version.txt").read_bytes()
@@ -50,13 +45,11 @@ def drawn() -> Iterator[Row]:
     for path in sorted((ROOT / "examples").glob("*.journal")):
         text = path.read_bytes()
         for source in (Source.FILE, Source.PIPE):
-            yield Row("tables", f"{path.name}, {source.name.lower()}", Call(TABLE, text, source), table(text))
+            yield Row("tables", f"{path.name}, {source.name.lower()}", Call(TABLE, text, source), partial(table, text))
     for name, text in {"the first script's": FIRST_JOURNAL, "several nodes": SEVERAL}.items():
-        yield Row("tables", name, Call(TABLE, text), table(text))
+        yield Row("tables", name, Call(TABLE, text), partial(table, text))
     for text, _ in faulty_texts.ILLEGAL:
-        yield Row("tables", repr(text[-60:]), Call(TABLE, text + b"end\n"), table(text + b"end\n"))
-    yield Row("tables", "more than 16 MiB", Call(TABLE, LONG + b"end\n", memory=FEW_BYTES), long_table())
-    yield Row("tables", "more than 16 MiB, and a fault behind that", Call(TABLE, LONG + b"fly\n"), fault(BEHIND, "bad-word"))
+        yield Row("tables", repr(text[-60:]), Call(TABLE, text + b"end\n"), partial(table, text + b"end\n"))
 
 
 def long_table() -> Ended:
@@ -315,7 +308,12 @@ def stored() -> Iterator[Row]:
         if path.with_suffix(".py").exists():
             continue  # drawn by a script of its own, and no journal's
         text = of.get(path.stem) or (ROOT / "examples" / f"{path.stem}.journal").read_bytes()
-        yield Row("stored pictures", path.name, Call((), text), Ended(table(text).status, path.read_bytes()))
+        yield Row("stored pictures", path.name, Call((), text), partial(drawn_as, text, path.read_bytes()))
+
+
+def drawn_as(text: bytes, picture: bytes) -> Ended:
+    """The result for a journal with this picture."""
+    return Ended(table(text).status, picture)
 
 
 def faults() -> Iterator[Row]:
@@ -394,25 +392,27 @@ def shown() -> Iterator[Shown]:
     yield Shown("standard output full", Call(words, LEGAL, output=Sink.FULL), 3, b"", full)
 
 
-def main() -> None:
-    """Tests the program of the command line."""
-    program = Path(sys.argv[-1])
-    if len(sys.argv) < 2 or not os.access(program, os.X_OK) or program.is_dir():
-        sys.exit(f"{program} is no program\n\n{__doc__}")
-    tally = Tally(is_brief=True)
-    with tempfile.TemporaryDirectory() as name:
-        # its name is what it is called by, whatever its file's is
-        path = Path(name) / "thpdraw"
-        path.symlink_to(program.resolve())
-        parts: tuple[Callable[[], Iterator[Row | Picture | Alone | Shown]], ...] = (
-            drawn, pictures, alone, alone_drawn, stored, faults, requests, failures, shown)
-        for part in parts:
-            rows, passed = list(part()), tally.passed
-            for row in rows:
-                tally.run(f"{row.group}: {row.name}", partial(row.wrong, path))
-            print(f"{rows[0].group}: {tally.passed - passed} of {len(rows)} calls", flush=True)
-    tally.end()
+AnyRow = Union[Row, Picture, Alone, Shown]
+
+PARTS: tuple[Callable[[], Iterator[AnyRow]], ...] = (drawn, pictures, alone, alone_drawn, stored, faults, requests, failures, shown)
 
 
-if __name__ == "__main__":
-    main()
+class Drawer(ProgramCase):
+    """Each call has the expected result."""
+
+    variable = "THPDRAW"
+
+    def check(self, row: AnyRow) -> Optional[str]:
+        """Returns what is wrong when the program makes a call, or None."""
+        return row.wrong(self.program)
+
+    def test_table_of_more_than_16_mib(self) -> None:
+        call = Call(TABLE, LONG + b"end\n", memory=FEW_BYTES)
+        self.assertIsNone(run(self.program, call).differs_from(long_table()))
+
+    def test_error_after_more_than_16_mib(self) -> None:
+        self.assertIsNone(run(self.program, Call(TABLE, LONG + b"fly\n")).differs_from(fault(BEHIND, "bad-word")))
+
+
+for part in PARTS:
+    add_tests(Drawer, Drawer.check, ((f"{row.group}: {row.name}", row) for row in part()))

@@ -1,24 +1,20 @@
 """Large inputs for the built program: a limit that was not requested would show here.
 
-    tests/large.py PROGRAM
-
 The expected results are computed here by counting, without a model of the program.
 """
 
 from __future__ import annotations
 
-import os
 import subprocess
 import sys
 import tempfile
 from dataclasses import dataclass
-from functools import partial
 from pathlib import Path
 from typing import Callable, Iterable, Iterator, Optional, Sequence
 
 import usage
+from fixtures import ProgramCase, add_tests
 from process import SECONDS, Call, Ended, ReadTooEarly, run
-from tally import Tally
 from texts import MOST_BYTES
 
 COUNTERS = ("thp_split_page", "thp_split_page_failed", "thp_deferred_split_page", "thp_split_pmd")
@@ -41,6 +37,13 @@ class Case:
     name: str
     call: Call
     wanted: Ended
+
+    def wrong(self, program: Path) -> Optional[str]:
+        """How the result of a program differs from the expected one, or None."""
+        try:
+            return run(program, self.call).differs_from(self.wanted)
+        except ReadTooEarly:
+            return "bytes of the input were read"
 
 
 def joined(lines: Iterable[str]) -> bytes:
@@ -347,8 +350,7 @@ with open(sys.argv[1], "w") as file:
     print(usage.ru_maxrss, file=file)
 sys.exit(os.waitstatus_to_exitcode(status))
 """
-"""Runs a program from a small process, and writes the most memory that it used, in KiB. A child is counted with its parent's
-memory
+"""Runs a program from a small process, and writes the most memory that it used, in KiB. A child is counted with its parent's memory
 at its start, so a large parent can't measure it."""
 
 
@@ -433,30 +435,27 @@ def crowd_journal(program: Path, options: tuple[str, ...], script: bytes, pages:
     return run(program, Call(CHECK, reported.output)).differs_from(LEGAL)
 
 
-def wrong_of(program: Path, case: Case) -> str | None:
-    """How a program differs from the expected result of a case."""
-    try:
-        return run(program, case.call).differs_from(case.wanted)
-    except ReadTooEarly:
-        return "bytes of the input were read"
+ALONE: dict[str, Callable[[Path], Optional[str]]] = {
+    "two million pins and unpins of setup, in 16 MiB": setup_keeps_nothing,
+    "two million pins and unpins of a worker, in 64 MiB": worker_keeps_commands,
+    "63 workers on 8 nodes": crowd,
+}
+"""What is more than a call."""
 
 
-def main() -> None:
-    """Runs each call, and checks its result."""
-    if len(sys.argv) != 2 or not os.access(sys.argv[1], os.X_OK):
-        sys.exit(__doc__)
-    tally = Tally()
-    with tempfile.TemporaryDirectory() as name:
-        path = Path(name) / "thpsplit"
-        path.symlink_to(Path(sys.argv[1]).resolve())
-        for part in PARTS:
-            for case in part():
-                tally.run(case.name, partial(wrong_of, path, case))
-        tally.run("two million pins and unpins of setup, in 16 MiB", lambda: setup_keeps_nothing(path))
-        tally.run("two million pins and unpins of a worker, in 64 MiB", lambda: worker_keeps_commands(path))
-        tally.run("63 workers on 8 nodes", lambda: crowd(path))
-        tally.end()
+class Large(ProgramCase):
+    """Each call has the expected result."""
+
+    def check_part(self, part: Callable[[], Iterator[Case]]) -> None:
+        """Makes the calls of a part one by one: together, their texts would take gigabytes."""
+        for case in part():
+            with self.subTest(case.name):
+                self.assertIsNone(case.wrong(self.program))
+
+    def check_alone(self, check: Callable[[Path], Optional[str]]) -> Optional[str]:
+        """Returns what is wrong with the program, or None."""
+        return check(self.program)
 
 
-if __name__ == "__main__":
-    main()
+add_tests(Large, Large.check_part, ((part.__name__, part) for part in PARTS))
+add_tests(Large, Large.check_alone, ALONE.items())

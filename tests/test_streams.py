@@ -1,9 +1,6 @@
-"""How the built program reads and writes: in parts of 65,536 bytes, nothing after the end, and only a part of an endless input.
+"""How thpsplit and thpcheck read and write: in parts of 65,536 bytes, nothing after the end, and only a part of an endless input.
 
-    tests/streams.py PROGRAM
-
-PROGRAM is `thpsplit` or `thpcheck`, recognised by the beginning of its file's name. strace lists each read and write. If it is
-missing or may not trace, a preloaded library does (tests/streams.c), which needs a C compiler.
+strace lists each read and write. If it is missing or may not trace, a preloaded library does (tests/streams.c), which needs a C compiler.
 """
 
 from __future__ import annotations
@@ -12,17 +9,15 @@ import os
 import re
 import shutil
 import subprocess
-import sys
-import tempfile
 from collections.abc import Iterable, Iterator
 from dataclasses import dataclass
-from functools import partial
 from pathlib import Path
+from unittest import SkipTest
 
-from large import long_script, pinned_scans, words
+from fixtures import ProgramCase, add_tests, temporary_folder
 from outside import ILLEGAL, LEGAL
 from process import Call, Ended, Sink, Source, Word, run
-from tally import Missing, Tally
+from test_large import long_script, pinned_scans, words
 from texts import MOST_BYTES
 
 PART = 65_536
@@ -79,7 +74,7 @@ def build(library: Path) -> None:
     """Builds the library to preload."""
     compiler = os.environ.get("CC", "cc").split()
     if shutil.which(compiler[0]) is None:
-        raise Missing(f"neither strace nor a C compiler ({compiler[0]}) can be used")
+        raise SkipTest(f"neither strace nor a C compiler ({compiler[0]}) can be used")
     source = Path(__file__).resolve().parent / "streams.c"
     subprocess.run([*compiler, "-O2", "-shared", "-fPIC", "-o", str(library), str(source)], check=True)
 
@@ -196,22 +191,31 @@ def full(name: str, call: Call) -> Iterator[Row]:
     yield Row(f"{name}, an output that is full", call, len(call.given))
 
 
-def main() -> None:
-    """Tests the program of the command line."""
-    if len(sys.argv) != 2 or not os.access(sys.argv[1], os.X_OK):
-        sys.exit(__doc__)
-    program, tally = Path(sys.argv[1]).resolve(), Tally()
-    rows = checker_rows() if program.name.startswith("thpcheck") else program_rows()
-    with tempfile.TemporaryDirectory() as name:
-        try:
-            tracer = Tracer(program, Path(name))
-        except Missing as missing:
-            tally.skip("reads and writes", str(missing))
-            tally.end()
-        for row in rows:
-            tally.run(row.name, partial(row.wrong, tracer))
-    tally.end()
+class Streams(ProgramCase):
+    """Tests of a program's reads and writes."""
+
+    tracer: Tracer
+
+    @classmethod
+    def setUpClass(cls) -> None:
+        """Finds the program and what lists its reads and writes, or skips the tests."""
+        super().setUpClass()
+        cls.tracer = Tracer(cls.program, temporary_folder(cls))
+
+    def check(self, row: Row) -> str | None:
+        """Returns how the program's reads and writes in a call differ, or None."""
+        return row.wrong(self.tracer)
 
 
-if __name__ == "__main__":
-    main()
+class ProgramStreams(Streams):
+    """Each call of thpsplit."""
+
+
+class CheckerStreams(Streams):
+    """Each call of thpcheck."""
+
+    variable = "THPCHECK"
+
+
+add_tests(ProgramStreams, ProgramStreams.check, ((row.name, row) for row in program_rows()))
+add_tests(CheckerStreams, CheckerStreams.check, ((row.name, row) for row in checker_rows()))

@@ -1,24 +1,21 @@
 """The built `thpcheck --script` on random journals: what `thpsplit` does for the script is compared with the journal.
 
-    tests/repeats.py CHECKER PROGRAM [--cases N] [--seed S]
-
 The journals are those of the model in model.py, some of version 4 for their callers. For one caller, and for callers whose batches are
 not open at once, the script must repeat the journal byte for byte, except for the callers' numbers (and version 4, which no script needs).
 For others it must make the same calls, its commands and the lines about what it moves must be those of a plain reading (plain_scripts.py),
 and the number of tries in another order than the takes must be reported. For an illegal journal it must be the script of the events before
-the illegal one.
+the illegal one. CASES is the number of journals (400), SEED selects others (1).
 """
 
 from __future__ import annotations
 
-import argparse
+import os
 import subprocess
-import sys
-from multiprocessing import Pool
 from pathlib import Path
 from random import Random
 from typing import Callable, Optional
 
+from fixtures import ProgramCase, add_tests, find_built
 from model import Refused
 from plain_scripts import BATCH_EVENTS, CALLS, OPERANDS, TRIES, plain_script
 from random_journals import as_version
@@ -26,9 +23,9 @@ from random_texts import (
     Script, changed_journal, joined, likely_words, operands, random_commands, random_shapes, script_of_many, script_of_one,
 )
 from script import Run, first_illegal
-from tally import Tally
 from texts import LARGE, LARGE_VERSION, SMALL, VERSION, journal_fault
 
+CASES, SEED = int(os.environ.get("CASES", 400)), int(os.environ.get("SEED", 1))
 SECONDS = 60
 BATCH_COMMANDS = ("scan", "take", "splitnext", "putback")
 CALLERS = (0, 1, 2, SMALL.caller)
@@ -227,45 +224,30 @@ def illegal(chance: Random, checker: Path, program: Path) -> Optional[str]:
     return None if reported in explained else "not explained"
 
 
-KINDS: dict[str, Callable[[Random, Path, Path], Optional[str]]] = {
-    "one caller": one_caller,
-    "callers apart": callers_apart,
-    "callers mixed": callers_mixed,
-    "tries mixed": tries_mixed,
-    "illegal": illegal,
-}
+KINDS: tuple[Callable[[Random, Path, Path], Optional[str]], ...] = (one_caller, callers_apart, callers_mixed, tries_mixed, illegal)
 
 
-def tried(case: tuple[int, int, Path, Path]) -> tuple[str, Optional[str]]:
-    """The kind of a case, and what is wrong in it."""
-    seed, place, checker, program = case
-    kind = list(KINDS)[place % len(KINDS)]
-    try:
-        return kind, KINDS[kind](Random(f"repeats {seed} {place}"), checker, program)
-    except subprocess.SubprocessError as error:
-        return kind, str(error)
+class Repeats(ProgramCase):
+    """Each journal, whose script another program runs."""
+
+    variable = "THPCHECK"
+    player: Path
+
+    @classmethod
+    def setUpClass(cls) -> None:
+        """Finds both programs, or skips the tests."""
+        super().setUpClass()
+        cls.player = find_built("THPSPLIT")
+
+    def check_late(self, journal: list[str]) -> Optional[str]:
+        """Returns what is wrong with the script of a journal, or None."""
+        return makes_same_calls(self.program, self.player, journal)
+
+    def check_random(self, place: int) -> Optional[str]:
+        """The same for the random journal with this number, which is of one of the kinds in turn."""
+        return KINDS[place % len(KINDS)](Random(f"repeats {SEED} {place}"), self.program, self.player)
 
 
-def main() -> None:
-    """Tests the programs of the command line."""
-    parser = argparse.ArgumentParser(description=__doc__, formatter_class=argparse.RawDescriptionHelpFormatter)
-    parser.add_argument("checker", type=Path)
-    parser.add_argument("program", type=Path)
-    parser.add_argument("--cases", type=int, default=400)
-    parser.add_argument("--seed", type=int, default=1)
-    words = parser.parse_args()
-    for path in (words.checker, words.program):
-        if not path.is_file():
-            sys.exit(f"{path} is no program")
-    tally = Tally(is_brief=True)
-    for name, journal in LATE.items():
-        tally.report(name, makes_same_calls(words.checker.resolve(), words.program.resolve(), journal))
-    cases = [(words.seed, place, words.checker.resolve(), words.program.resolve()) for place in range(words.cases)]
-    with Pool() as pool:
-        for place, (kind, wrong) in enumerate(pool.imap(tried, cases, 20)):
-            tally.report(f"{kind}, case {place} of seed {words.seed}", wrong)
-    tally.end()
-
-
-if __name__ == "__main__":
-    main()
+add_tests(Repeats, Repeats.check_late, LATE.items())
+NAMES = [kind.__name__ for kind in KINDS]
+add_tests(Repeats, Repeats.check_random, ((f"{NAMES[it % len(NAMES)]} {it} of seed {SEED}", it) for it in range(CASES)))
