@@ -28,7 +28,9 @@ LIBRARIES = "/usr/aarch64-linux-gnu"
 
 PROGRAMS = ("thpsplit", "thpcheck", "thpdraw")
 
-SCRIPTS = {"thpsplit": ("test_rows.py", "test_outside.py", "test_workers.py"), "thpcheck": ("test_checker.py",), "thpdraw": ("test_drawer.py",)}
+SCRIPTS = {
+    "thpsplit": ("test_rows.py", "test_outside.py", "test_workers.py"), "thpcheck": ("test_checker.py",), "thpdraw": ("test_drawer.py",),
+}
 """The tests of each program."""
 
 SECONDS = 3600
