@@ -40,6 +40,11 @@ def fault(line: int, word: str) -> Ended:
     return Ended(2, b"", f"thpdraw: line {line}: {word}\n".encode())
 
 
+def name_group(group: str, words: tuple[str, ...]) -> str:
+    """Returns the name of the calls of a group with these words."""
+    return " ".join((group, *words))
+
+
 def drawn() -> Iterator[Row]:
     """Tables of legal and illegal journals: those in examples/, of several nodes, and of single illegal events."""
     for path in sorted((ROOT / "examples").glob("*.journal")):
@@ -320,8 +325,8 @@ def faults() -> Iterator[Row]:
     """Each error of a journal, also after an illegal event: nothing is written. And a script is not a journal."""
     for words in ((), TABLE):
         for text, number, word in faulty_texts.JOURNALS + faulty_texts.LARGE_JOURNALS:
-            yield Row("faults", repr(text[-60:]), Call(words, text), fault(number, word))
-        yield Row("faults", "a script", Call(words, FIRST), fault(1, "bad-word"))
+            yield Row(name_group("faults", words), repr(text[-60:]), Call(words, text), fault(number, word))
+        yield Row(name_group("faults", words), "a script", Call(words, FIRST), fault(1, "bad-word"))
     for text, _ in faulty_texts.ILLEGAL:
         count = text.count(b"\n") + 1
         yield Row("faults", f"illegal, then a fault: {text[-60:]!r}", Call(TABLE, text + b"fly\n"), fault(count, "bad-word"))
@@ -371,8 +376,8 @@ def failures() -> Iterator[Row]:
     for sink in LOST:
         name = sink.name.lower()
         for words in ((), TABLE):
-            yield Row("streams", f"legal, standard output {name}", Call(words, LEGAL, output=sink), WRITE_FAILED)
-            yield Row("streams", f"illegal, standard output {name}", Call(words, ILLEGAL, output=sink), WRITE_FAILED)
+            yield Row(name_group("streams", words), f"legal, standard output {name}", Call(words, LEGAL, output=sink), WRITE_FAILED)
+            yield Row(name_group("streams", words), f"illegal, standard output {name}", Call(words, ILLEGAL, output=sink), WRITE_FAILED)
         yield Row("streams", f"illegal, standard error {name}", Call(TABLE, ILLEGAL, errors=sink), table(ILLEGAL))
         yield Row("streams", f"a fault, standard error {name}", Call(TABLE, b"fly\n", errors=sink), Ended(2))
 
