@@ -15,10 +15,10 @@ import subprocess
 import sys
 import time
 from collections.abc import Callable
-from functools import partial
 from pathlib import Path
+from typing import NoReturn
 
-from tally import SKIPPED, Tally
+from run import SKIPPED
 
 ROOT = Path(__file__).resolve().parent.parent
 sys.path.insert(0, str(ROOT))
@@ -130,11 +130,11 @@ class Verdicts:
             print(f"no verdict line for `make dist`: {', '.join(lacking)}", flush=True)
 
 
-class Gate(Tally):
+class Gate:
     """The parts of the gate, and what failed in them."""
 
     def __init__(self) -> None:
-        super().__init__()
+        self.passed, self.failed = 0, 0
         self.failures: list[str] = []
 
     def add(self, name: str, command: list[str], variables: dict[str, str] | None = None,
@@ -160,12 +160,28 @@ class Gate(Tally):
         words = ["tests/run.py", "-p", name] if name.startswith("test_") else [path, *given]
         self.add(" ".join([name, *(Path(it).name for it in given)]), [sys.executable, *words], programs)
 
-    def end(self) -> None:
+    def report(self, name: str, wrong: str | None) -> None:
+        """Counts a part that is one test, given what is wrong, or None."""
+        self.passed += wrong is None
+        self.failed += wrong is not None
+        print(f"{name}: passed" if wrong is None else f"{name}: failed: {wrong}", flush=True)
+        if wrong is not None:
+            self.failures.append(f"failed in {name}: {wrong}")
+
+    def skip(self, name: str, why: str) -> None:
+        """Names a part that can't be run here. It counts as neither, or as failed if STRICT=1 is set."""
+        if os.environ.get("STRICT") == "1":
+            self.report(name, f"{why} (STRICT=1)")
+        else:
+            print(f"{name}: skipped: {why}", flush=True)
+
+    def end(self) -> NoReturn:
         """Repeats the failures, prints the total processor time and the count, and ends."""
         print(f"processor minutes: {spent() / 60:.1f}", flush=True)
         for line in self.failures:
             print(line, flush=True)
-        super().end()
+        print(f"{self.passed} passed, {self.failed} failed", flush=True)
+        sys.exit(1 if self.failed else 0)
 
 
 def build_tools(gate: Gate, *targets: str) -> None:
@@ -176,7 +192,7 @@ def build_tools(gate: Gate, *targets: str) -> None:
         subprocess.run(["make", "-k", "-s", "-C", "linux"], cwd=ROOT, capture_output=True)  # the rest
         return
     for folder in (*targets, "linux"):
-        gate.run(f"make -C {folder}", partial(built, folder))
+        gate.report(f"make -C {folder}", built(folder))
 
 
 def built(folder: str) -> str | None:

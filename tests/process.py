@@ -10,8 +10,7 @@ from dataclasses import dataclass
 from enum import Enum, auto
 from pathlib import Path
 from typing import Callable, Optional, Union
-
-from tally import Missing
+from unittest import SkipTest
 
 SECONDS = 1200 if os.environ.get("EMULATED") == "1" else 120
 """A run that takes longer counts as one that never ends; an emulator is slower."""
@@ -83,10 +82,10 @@ class ReadTooEarly(Exception):
 
 
 def run(program: Path, call: Call) -> Ended:
-    """Executes a run. Returns its end; checks that the input is untouched if required. Missing if the call bounds the memory of a
+    """Executes a run. Returns its end; checks that the input is untouched if required. SkipTest if the call bounds the memory of a
     program that is emulated, since that bounds the emulator."""
     if call.memory is not None and os.environ.get("EMULATED") == "1":
-        raise Missing("the program is emulated")
+        raise SkipTest("the program is emulated")
     with tempfile.TemporaryDirectory() as folder:
         path = Path(folder) / "input"
         path.write_bytes(call.given)
