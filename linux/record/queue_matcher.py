@@ -9,6 +9,7 @@ from .calls import list_removals
 from .mappings import MappingEvents
 from .reasons import Count, Doubt, Omission
 from .records import QUEUE_MOST, Kind
+from .scratch import PAGE
 from .state import LINES, Page
 
 
@@ -58,7 +59,7 @@ class QueueMatcher(MappingEvents):
                 shown = {*takewhile(lambda folio: self.at.get(folio) not in later, queue)} - {page.folio for page in self.joining.values()}
                 known = [page for page in takewhile(lambda page: page not in later, self.queue) if page.folio in shown]
                 for page in known:
-                    page.join = None
+                    page.join = 0
                 self.lines.more = LINES * (len(self.queue) - len(known))
 
     def _is_journal_queue(self, queue: list[int]) -> bool:
@@ -115,7 +116,7 @@ class QueueMatcher(MappingEvents):
         if not later or min(places.values()) < 0:
             return
         lines, first = self.lines.latest, min(places.values())
-        late = {i for i in range(first, len(lines)) if i >= places.get(lines[i].page, len(lines))}
+        late = {i for i in range(first, len(lines)) if i >= places.get(lines[i] & PAGE, len(lines))}
         self.lines.latest[first:] = [lines[i] for i in sorted(range(first, len(lines)), key=lambda i: i in late)]
         for queue in (self.queue, self.journal_queue):
             for page in [page for page in queue if page in later]:
@@ -146,8 +147,8 @@ class QueueMatcher(MappingEvents):
                 if not 0 <= first <= last:
                     return not late.is_omitted and not page.is_omitted
                 window = self.lines.latest[first : last + 1]
-                own = [line for line in window if line.page == page.number]
-                self.lines.latest[first : last + 1] = own + [line for line in window if line.page != page.number]
+                own = [line for line in window if line & PAGE == page.number]
+                self.lines.latest[first : last + 1] = own + [line for line in window if line & PAGE != page.number]
                 journal_queue.remove(page)
                 journal_queue.insert(journal_queue.index(late), page)
             queue.remove(page)

@@ -183,7 +183,7 @@ class ScanEvents(QueueMatcher):
             self._emit_try(task, page, page in stay)
         for page in back:
             self.emit(task, page, "back")
-            page.join = None
+            page.join = 0
         self.queue.update(dict.fromkeys(stay))
         self.journal_queue.update(dict.fromkeys(back))
 

@@ -19,7 +19,7 @@ from ..common.journal import FILLING, MOST_CALLERS, SMALL_BLOCKS, SMALL_CALLERS,
 from ..common.subpages import bits_of, size
 from .reasons import Doubt, Omission, Reason
 from .records import Kind, Record
-from .scratch import JournalLine, JournalLines
+from .scratch import JournalLines, pack_line
 
 FOREVER = 1 << 64
 LINES = 3  # of a page until it joins the queue: alloc, splitpmd, unmapsub
@@ -49,7 +49,7 @@ class Page:
     (is_perhaps_taken). It isn't in the journal (is_omitted); its contents were looked at (is_seen); a scan tried it (is_tried); a copy of
     the queue showed it before its task's next record (has_joined). Times: since when it is partly mapped; when a copy first lacked it
     (missed); when it joined the queue or was put back singly (entered); when the last call that reached it was recorded (last_change).
-    `join`: the event by which it joined the queue."""
+    `join`: the line by which it joined the queue."""
 
     __slots__ = (
         "number", "folio", "subpages", "every", "held", "born", "maps", "is_live", "is_omitted", "is_freed", "last_change",
@@ -63,7 +63,7 @@ class Page:
         self.is_taken = self.is_perhaps_taken = self.is_partly_mapped = self.split = self.is_freed = False
         self.is_omitted = self.is_seen = self.is_tried = self.has_joined = False
         self.is_live = True
-        self.join: JournalLine | None = None
+        self.join = 0
 
     def mapping_in(self, space: int, base: int | None = None) -> Mapping | None:
         """Returns an address space's mapping, if it has one, and if that is at a place."""
@@ -234,7 +234,7 @@ class State:
     def emit(self, task: int, page: Page, word: str, first: int = 0, count: int = 0, outcome: str = "", given: int = 0) -> None:
         """Emits an event of a page."""
         event = Event(self.caller_of(task), word, page.number, first, count, outcome, given)
-        self.lines.add(JournalLine(page.number, event.text(), self.now))
+        self.lines.add(pack_line(page.number, self.now, event.text()))
         self.event_counts[word] += 1
 
     def caller_of(self, task: int) -> int:
@@ -334,7 +334,7 @@ class State:
         page.entered = self.now
         self.queue[page] = self.journal_queue[page] = None
         self.lines.more = LINES * min(self.lines.more // LINES + 1, len(self.queue))
-        page.join = self.lines.latest[-1] if self.lines.latest else None
+        page.join = self.lines.latest[-1] if self.lines.latest else 0
 
     def dequeue(self, page: Page) -> None:
         """Removes a page from the queue, if it is there."""
