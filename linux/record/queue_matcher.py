@@ -22,7 +22,7 @@ class QueueMatcher(MappingEvents):
         if queue is None:
             return
         if self._is_journal_queue(queue):
-            self._count(False, queue, {page for page in self.queue if page.born > self.now})
+            self._count(False, queue, {page for page in self.queue if self.newest > self.now and page.born > self.now})
             return
         shown = {*queue}
         for page in self.joining.values():
@@ -36,10 +36,11 @@ class QueueMatcher(MappingEvents):
         for page in self.joining.values():
             if page.folio not in shown and page in self.queue and not page.is_freed:
                 self.move_to_end({page})  # its allocation put it into our queue, but it is not in the kernel's yet
-        found = [page for page in map(self.page_at, queue) if page and page.born <= self.now]
+        found = [page for page in map(self.page_at, queue) if page and (self.newest <= self.now or page.born <= self.now)]
         if not self._reorder([page for page in found if page in self.queue]):
             return
-        later = {page for page in self.queue if page.born > self.now or page.entered > self.now and page.folio not in shown}
+        later = {page for page in self.queue if self.newest > self.now and page.born > self.now
+                 or page.folio not in shown and page.entered > self.now}
         skip = {*self.joining.values(), *later}
         mine = [page for page in self.queue if not page.is_omitted and page not in skip]
         kernels = [page for page in found if not page.is_omitted and page not in skip]
@@ -124,8 +125,7 @@ class QueueMatcher(MappingEvents):
                 queue[page] = None
 
     def _reorder(self, kernels: list[Page]) -> bool:
-        """Moves events of a page to an earlier place: pages of two tasks may join in another order than that in which their calls end.
-        Returns whether those of no page were too old for it, which is left out then."""
+        """Moves events of pages to earlier places: tasks' pages join in another order than calls end. Returns whether none was final."""
         these = {*kernels}
         mine = [page for page in self.queue if page in these]
         if mine != kernels:

@@ -72,8 +72,7 @@ class ScratchFile:
 
 
 def pack_line(page: int, time: int, text: str) -> int:
-    """Returns a line as a number, which takes the least memory: the recorder's number of a page, the time (ns) of what showed its event,
-    and the event's text without that number."""
+    """Packs a line: the recorder's number of a page, the time (ns) of what showed its event, and the event's text without that number."""
     return int.from_bytes(text.replace(f" {page}", "", 1).encode("ascii"), "little") << TEXT_AT | time << TIME_AT | page
 
 
@@ -116,8 +115,7 @@ class JournalLines:
             self.latest[place + 1 :] = moved + self.latest[place + 1 : edge]
 
     def timed_texts(self, omitted: Sequence[int]) -> Iterator[tuple[int, str]]:
-        """Yields the time (ns) and the text of all lines except those of omitted pages. Pages are numbered by their first lines;
-        omitted pages get no number."""
+        """Yields the time (ns) and the text of all lines except those of omitted pages. Pages are numbered by their first lines."""
         numbers: dict[int, str] = {}  # of the pages that live, by their numbers in `latest` and in the file
         given = 0
         for time, text in self.raw():
