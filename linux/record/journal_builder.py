@@ -59,7 +59,7 @@ class JournalBuilder(TracedScans):
                 handlers[record.kind](record)
             if len(self.awake) > MOST_AWAKE:
                 self.rest_pages(self._fault_pages.values())
-        self.at, self.resting, self.spaces = {}, {}, {}  # the journal is written without them
+        self.at, self.resting, self.spaces, self.queue, self.journal_queue, self.awake = {}, {}, {}, {}, {}, set()  # the lines suffice
 
     def _add_observed(self, record: Record) -> None:
         """Notes what function tracing has observed, and emits the event by which a page has joined the queue."""
@@ -155,9 +155,8 @@ class JournalBuilder(TracedScans):
             self.tallies[Count.WITHOUT_FAULT] += not fails
 
     def handle_contents(self, record: Record) -> None:
-        """Emits what was written since the last look at a page: data where zeros were, and zeros where data was. What the first
-        look finds was written at the allocation, unless a scan tried the page since: until then nothing is known of it. A page
-        that was made or changed during the look is left to the next one."""
+        """Emits what was written since the last look at a page, data or zeros. What the first finds was written at the allocation, unless a
+        scan tried the page since. A page that was made or changed during the look is left to the next one."""
         page, began = self.page_at(record.values[0]), record.values[1]
         if page is None or record.contents is None or page.split or page.born > began or page.last_change > began:
             return
@@ -173,8 +172,7 @@ class JournalBuilder(TracedScans):
         page.is_seen = True
 
     def handle_copy(self, record: Record) -> None:
-        """Follows a copy on write: a base page allocated in a fault on a mapped subpage. It counts as a call that unmaps the subpage and
-        ends by its task's next record: the old frame is freed some microseconds after the new one is allocated."""
+        """Follows a copy on write: a fault's base page counts as a call that unmaps the subpage and ends by its task's next record."""
         _, how, address, code = record.values[:4]
         if how != IN_FAULT or code & WRITTEN != WRITTEN:
             return

@@ -73,8 +73,7 @@ class MappingEvents(State):
             self.unmap(self.ends[mapping.space], page, mapping, page.every, queue)
 
     def begin_end(self, page: Page, queue: list[int]) -> None:
-        """Unmaps a page that is in the queue in address spaces that are ending, one after the other until it is partly mapped. Of
-        the last mapping the part that lies in the first of two page tables goes."""
+        """Unmaps a queued page in ending address spaces, one by one until it is partly mapped; of the last the part in the first table."""
         for mapping in [each for space in self.ending_spaces(page) for each in page.maps if each.space == space]:
             bits = page.every if len(page.maps) > 1 else self._in_first_table(mapping)
             if bits and page not in self.queue:

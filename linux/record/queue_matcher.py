@@ -9,6 +9,7 @@ from .calls import list_removals
 from .mappings import MappingEvents
 from .reasons import Count, Doubt, Omission
 from .records import QUEUE_MOST, Kind
+from .scratch import PAGE
 from .state import LINES, Page
 
 
@@ -21,7 +22,7 @@ class QueueMatcher(MappingEvents):
         if queue is None:
             return
         if self._is_journal_queue(queue):
-            self._count(False, queue, {page for page in self.queue if page.born > self.now})
+            self._count(False, queue, {page for page in self.queue if self.newest > self.now and page.born > self.now})
             return
         shown = {*queue}
         for page in self.joining.values():
@@ -35,10 +36,11 @@ class QueueMatcher(MappingEvents):
         for page in self.joining.values():
             if page.folio not in shown and page in self.queue and not page.is_freed:
                 self.move_to_end({page})  # its allocation put it into our queue, but it is not in the kernel's yet
-        found = [page for page in map(self.page_at, queue) if page and page.born <= self.now]
+        found = [page for page in map(self.page_at, queue) if page and (self.newest <= self.now or page.born <= self.now)]
         if not self._reorder([page for page in found if page in self.queue]):
             return
-        later = {page for page in self.queue if page.born > self.now or page.entered > self.now and page.folio not in shown}
+        later = {page for page in self.queue if self.newest > self.now and page.born > self.now
+                 or page.folio not in shown and page.entered > self.now}
         skip = {*self.joining.values(), *later}
         mine = [page for page in self.queue if not page.is_omitted and page not in skip]
         kernels = [page for page in found if not page.is_omitted and page not in skip]
@@ -58,7 +60,7 @@ class QueueMatcher(MappingEvents):
                 shown = {*takewhile(lambda folio: self.at.get(folio) not in later, queue)} - {page.folio for page in self.joining.values()}
                 known = [page for page in takewhile(lambda page: page not in later, self.queue) if page.folio in shown]
                 for page in known:
-                    page.join = None
+                    page.join = 0
                 self.lines.more = LINES * (len(self.queue) - len(known))
 
     def _is_journal_queue(self, queue: list[int]) -> bool:
@@ -115,7 +117,7 @@ class QueueMatcher(MappingEvents):
         if not later or min(places.values()) < 0:
             return
         lines, first = self.lines.latest, min(places.values())
-        late = {i for i in range(first, len(lines)) if i >= places.get(lines[i].page, len(lines))}
+        late = {i for i in range(first, len(lines)) if i >= places.get(lines[i] & PAGE, len(lines))}
         self.lines.latest[first:] = [lines[i] for i in sorted(range(first, len(lines)), key=lambda i: i in late)]
         for queue in (self.queue, self.journal_queue):
             for page in [page for page in queue if page in later]:
@@ -123,8 +125,7 @@ class QueueMatcher(MappingEvents):
                 queue[page] = None
 
     def _reorder(self, kernels: list[Page]) -> bool:
-        """Moves events of a page to an earlier place: pages of two tasks may join in another order than that in which their calls end.
-        Returns whether those of no page were too old for it, which is left out then."""
+        """Moves events of pages to earlier places: tasks' pages join in another order than calls end. Returns whether none was final."""
         these = {*kernels}
         mine = [page for page in self.queue if page in these]
         if mine != kernels:
@@ -146,8 +147,8 @@ class QueueMatcher(MappingEvents):
                 if not 0 <= first <= last:
                     return not late.is_omitted and not page.is_omitted
                 window = self.lines.latest[first : last + 1]
-                own = [line for line in window if line.page == page.number]
-                self.lines.latest[first : last + 1] = own + [line for line in window if line.page != page.number]
+                own = [line for line in window if line & PAGE == page.number]
+                self.lines.latest[first : last + 1] = own + [line for line in window if line & PAGE != page.number]
                 journal_queue.remove(page)
                 journal_queue.insert(journal_queue.index(late), page)
             queue.remove(page)

@@ -80,8 +80,7 @@ class Track:
         return found
 
     def take(self, room: int) -> bool:
-        """Moves the records since the last call to the store, which may grow by so many bytes: taking them must not be slower than
-        their making. Returns whether there was room for all."""
+        """Moves the records since the last call to the store, which may grow by so many bytes. Returns whether there was room for all."""
         count = ctypes.c_long()
         failed = self._library.thp_record_take(self._recorder, self.store.descriptor, max(room, 0), ctypes.byref(count))
         if failed not in (0, -errno.EXFULL):

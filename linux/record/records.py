@@ -63,8 +63,7 @@ _SUBPAGES = (1 << 23) - 1  # of _nr_pages_mapped: the bits above it show whether
 
 @dataclass(eq=False)
 class Record:
-    """`queue`: folios, oldest first; None where none was copied, or its walk didn't end where it began. The fields behind the
-    links are set by a Store."""
+    """`queue`: folios, oldest first; None: not copied, or its walk didn't end where it began. A Store sets the fields behind the links."""
 
     kind: Kind
     time: int  # ns
@@ -128,8 +127,7 @@ class Batch:
 
 
 class Store(ScratchFile):
-    """Records of one queue. Records may be written to the end of its `descriptor`. `batches`: those that were observed, by their begins;
-    None: functions weren't traced."""
+    """Records of one queue, to whose `descriptor` more may be written. `batches`: those observed, by their begins; None: not traced."""
 
     def __init__(self, folder: str = FOLDER) -> None:
         super().__init__("the records", folder)
@@ -146,8 +144,7 @@ class Store(ScratchFile):
 
     def link(self) -> None:
         """Links the records, all of which have come: each scan and each allocation for a collapse with its end, a scan's end without a
-        copy of the queue with the next one, and the first record of each address space with the space's end, which gets the time from
-        when on nothing else was recorded of the space."""
+        copy with the next one, an address space's first record with its end, which gets the time since when nothing was recorded."""
         linker, batches = _Linker(self), _Batches()
         for at, record in self._walk(with_frees=False):
             linker.see(at, record)

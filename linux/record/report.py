@@ -35,8 +35,7 @@ class JournalFile(ScratchFile):
             return escape(next(itertools.islice(file, number - 1, None), b"").rstrip(b"\n"))[:SHOWN]
 
     def check(self, by: JournalChecker) -> tuple[int | None, list[str]]:
-        """Returns the line of the first illegal event, from 1 (None: it is legal), and lines that explain it. RunFailed where the
-        checker doesn't accept the journal."""
+        """Returns the line of the first illegal event, from 1 (None: legal), and lines that explain it. RunFailed: it isn't accepted."""
         verdict = by.check(self.descriptor)
         if not verdict.legal and verdict.line is None:
             raise RunFailed(f"{escape(by.path)} doesn't take the journal of {self.size} bytes: {escape(verdict.text)}")
@@ -45,8 +44,7 @@ class JournalFile(ScratchFile):
 
 
 class Outputs:
-    """The files of --out, --times and --records, of the last one for each of a number of queues: made before the recording begins,
-    and removed again where nothing was written."""
+    """The files of --out, --times and --records, the last for each queue: made before the recording, removed where nothing was written."""
 
     def __init__(self, options: Namespace, queues: int) -> None:
         names = {"journal": options.out, "times": options.times}

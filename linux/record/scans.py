@@ -13,7 +13,7 @@ from ..common.subpages import runs, size
 from .queue_matcher import QueueMatcher
 from .reasons import Count, Doubt, Omission
 from .records import Record
-from .state import Page, Queue, Scan
+from .state import FREED, Page, Queue, Scan
 
 BATCH = 128  # pages that a scan takes at most at a time
 
@@ -48,7 +48,8 @@ class ScanEvents(QueueMatcher):
             self.begin_doubt(Doubt.OVERLAP)
         joining = [page for page in self.joining.values() if page.folio not in record.queue]
         batches = [*batches_of(*record.values[:2])]
-        pages = [page if page and page.born <= record.time else None for page in map(self.page_at, record.queue)]
+        newest = self.newest > record.time
+        pages = [None if newest and page and page.born > record.time else page for page in map(self.page_at, record.queue)]
         self.scans[record.task] = Scan(record, pages, joining, batches, sum(count for _, count in batches), self.changes)
 
     def handle_scanned(self, record: Record, observed: list[int] | None = None) -> None:
@@ -91,9 +92,8 @@ class ScanEvents(QueueMatcher):
         self.match(own)
 
     def end_scans_early(self, queue: list[int] | None) -> None:
-        """Emits a scan that another task still runs, if the pages that it puts back precede a page that is new in the
-        queue. The queue shows these pages now: when the scan's end is recorded, one of them may have been freed, and
-        its folio may be another page's, elsewhere in the queue."""
+        """Emits a scan that another task still runs, if the pages that it puts back precede a page that is new in the queue. The queue
+        shows these pages now: until the scan's end is recorded, one may be freed, and its folio become another page's."""
         if not self.scans or queue is None:
             return
         own_queue = {page.folio for page in self.queue}
@@ -126,8 +126,7 @@ class ScanEvents(QueueMatcher):
         return [page for page in batch if page not in left]
 
     def _end_batch(self, scan: Scan, found: Mapping[Page, int], former: Mapping[Page, int], queue: list[int]) -> list[Page]:
-        """Emits a batch of a scan by the queue after it; returns the pages put back, in the kernel's order. `former`: where pages were
-        in the queue at its start."""
+        """Emits a batch by the queue after it; returns the pages put back, in the kernel's order. `former`: where pages were before."""
         first, count = scan.batches.pop(0)
         batch = [page for page in scan.taken if page.is_live] or self._batch(scan, first, count, found)
         for page in batch:
@@ -183,14 +182,13 @@ class ScanEvents(QueueMatcher):
             self._emit_try(task, page, page in stay)
         for page in back:
             self.emit(task, page, "back")
-            page.join = None
+            page.join = 0
         self.queue.update(dict.fromkeys(stay))
         self.journal_queue.update(dict.fromkeys(back))
 
     def _omit_requeued(self, start: Record, stay: list[Page], found: Mapping[Page, int]) -> None:
-        """Omits a page that a call has queued again. A scan puts its pages back in one step: if another page is between
-        them, one was not put back. The scan found it in use and dropped it; a call then unmapped a part of it. Linux 7 puts
-        them back one by one: a page that became partly mapped during the scan may then be left out needlessly."""
+        """Omits a page that a call has queued again, if another is between those put back: the scan found it in use and dropped it. Linux 7
+        puts them back one by one: a page that became partly mapped during the scan may then be left out needlessly."""
         places = [found[page] for page in stay]
         if places and places[-1] - places[0] >= len(places):
             for page in stay:
@@ -202,9 +200,9 @@ class ScanEvents(QueueMatcher):
         more than were in the queue then, and these aren't in the queue at its end."""
         joining, shown, known = {*scan.joining}, {*queue}, {*scan.pages}
         for page in self.queue:
-            is_new = page in joining or page.born >= scan.start.time
-            is_gone = page.folio not in shown and not page.is_freed
-            if not is_new or not is_gone or page in known or len(scan.pages) >= scan.start.values[0]:
+            is_gone = page.folio not in shown and page not in known and not page.is_freed
+            is_new = is_gone and (page in joining or page.born >= scan.start.time)
+            if not is_new or len(scan.pages) >= scan.start.values[0]:
                 continue
             if page.is_perhaps_taken or page in self.joining.values() and not page.has_joined:
                 page.is_perhaps_taken = True  # by this scan, or by one before
@@ -222,7 +220,7 @@ class ScanEvents(QueueMatcher):
 
     def _emit_frees(self, pages: list[Page | None], queue: list[int]) -> None:
         """Emits the frees of pages during a scan that no event shows yet: a running call freed the page, or a process that is ending."""
-        for page in [page for page in pages if page and page.is_freed]:
+        for page in [page for page in pages if page and (page.packed & FREED if page.packed else page.is_freed)]:
             for call in self.calls_reaching(page):
                 if page.is_live:
                     self.apply_early(call, page, queue)
@@ -230,8 +228,7 @@ class ScanEvents(QueueMatcher):
                 self.end_early(page, queue)
 
     def _put_between(self, back: list[Page], kernels: Mapping[Page, int]) -> None:
-        """Gives the pages put back their places among those that joined while the scan ran: Linux 7 puts pages back one by
-        one, so that another can join between them."""
+        """Gives the pages put back their places among those that joined meanwhile: Linux 7 puts pages back one by one."""
         queue: Queue = {}
         rest, those = deque(back), {*back}
         for page in [page for page in self.queue if page not in those]:
@@ -259,18 +256,15 @@ class ScanEvents(QueueMatcher):
         members = {page for page in pages if page in self.journal_queue}
         own = [*islice((page for page in self.journal_queue if page in members), len(members))]
         mine = [page for page in own if not page.is_omitted]
-        if {*mine} != self._oldest(self.journal_queue, len(mine)):
-            if {*mine} == self._oldest(self.queue, len(mine)):
+        oldest, theirs = ({*islice((page for page in each if not page.is_omitted), len(mine))} for each in (self.journal_queue, self.queue))
+        if {*mine} != oldest:
+            if {*mine} == theirs:
                 for page in self.queue:
                     self.omit(page, Omission.PART_SCANNED)
             elif self.is_doubted:
                 for page in self._older({*pages}):
                     self.omit(page, Omission.OVERLAPPED)
         return own
-
-    def _oldest(self, queue: Queue, count: int) -> set[Page]:
-        """Returns the oldest pages of a queue that aren't left out."""
-        return {*islice((page for page in queue if not page.is_omitted), count)}
 
     def _older(self, pages: AbstractSet[Page | None]) -> set[Page]:
         """Returns the pages of the journal's queue that precede one of these pages, and are none of them."""

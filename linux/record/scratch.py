@@ -15,6 +15,8 @@ PIECE = 1 << 20  # bytes that are read at a time
 LINES = 10000  # that are written at a time
 WINDOW = 20000  # lines that can be reordered
 SLACK = 5000  # lines beyond these that are kept before the oldest go to the file
+TIME_AT, TEXT_AT = 32, 96  # in a packed line, which begins with the page
+PAGE, PLACE = (1 << TIME_AT) - 1, (1 << TEXT_AT) - 1
 
 
 class ScratchFile:
@@ -69,52 +71,51 @@ class ScratchFile:
         self._file.close()
 
 
-class JournalLine:
-    """The text of a page's event, with the recorder's number of the page, not the journal's, and the time (ns) of what showed it."""
+def pack_line(page: int, time: int, text: str) -> int:
+    """Packs a line: the recorder's number of a page, the time (ns) of what showed its event, and the event's text without that number."""
+    return int.from_bytes(text.replace(f" {page}", "", 1).encode("ascii"), "little") << TEXT_AT | time << TIME_AT | page
 
-    __slots__ = ("page", "text", "time")
 
-    def __init__(self, page: int, text: str, time: int) -> None:
-        self.page, self.text, self.time = page, text, time
+def unpack_line(line: int) -> tuple[int, str]:
+    """Returns the time and the text of a line."""
+    rest = line >> TEXT_AT
+    caller, word, *more = rest.to_bytes(rest.bit_length() + 7 >> 3, "little").decode("ascii").split(" ", 2)
+    return (line & PLACE) >> TIME_AT, " ".join([caller, word, str(line & PAGE), *more])
 
 
 class JournalLines:
-    """All lines in order. `latest` may be replaced by a list of the same lines in another order."""
+    """All lines in order, packed. `latest` may be replaced by a list of the same lines in another order."""
 
     def __init__(self) -> None:
-        self.latest: list[JournalLine] = []
+        self.latest: list[int] = []
         self.final = 0  # how many lines went to the file
         self.more = 0  # lines beyond WINDOW that can be reordered: those of pages whose places in the queue aren't known
         self._file = ScratchFile("the journal")
 
-    def add(self, line: JournalLine) -> None:
+    def add(self, line: int) -> None:
         """Appends a line, and makes the oldest ones final where there are many more than can be reordered."""
         self.latest.append(line)
         window = WINDOW + self.more
         if len(self.latest) >= window + SLACK:
             oldest, self.latest = self.latest[:-window], self.latest[-window:]
-            self._file.append_lines(f"{each.time} {each.text}" for each in oldest)
+            self._file.append_lines("%d %s" % unpack_line(each) for each in oldest)
             self.final += len(oldest)
-            for each in oldest:  # pages may have some still
-                each.text, each.time = "", 0
 
-    def find(self, line: JournalLine | None) -> int:
+    def find(self, line: int) -> int:
         """Returns where a line is among the latest; -1: nowhere."""
         return next((at for at in range(len(self.latest) - 1, -1, -1) if self.latest[at] is line), -1)
 
     def move_behind(self, page: int, count: int) -> None:
         """Moves the latest `count` lines behind the allocation of a page, and to its time, unless that is final."""
         edge = len(self.latest) - count
-        place = next((at for at in range(edge - 1, -1, -1) if self.latest[at].page == page and " alloc " in self.latest[at].text), -1)
+        own = (at for at in range(edge - 1, -1, -1) if self.latest[at] & PAGE == page)
+        place = next((at for at in own if " alloc " in unpack_line(self.latest[at])[1]), -1)
         if place >= 0:
-            moved = self.latest[edge:]
-            for each in moved:
-                each.time = self.latest[place].time
+            moved = [each & ~PLACE | self.latest[place] & PLACE for each in self.latest[edge:]]
             self.latest[place + 1 :] = moved + self.latest[place + 1 : edge]
 
     def timed_texts(self, omitted: Sequence[int]) -> Iterator[tuple[int, str]]:
-        """Yields the time (ns) and the text of all lines except those of omitted pages. Pages are numbered by their first lines;
-        omitted pages get no number."""
+        """Yields the time (ns) and the text of all lines except those of omitted pages. Pages are numbered by their first lines."""
         numbers: dict[int, str] = {}  # of the pages that live, by their numbers in `latest` and in the file
         given = 0
         for time, text in self.raw():
@@ -135,8 +136,7 @@ class JournalLines:
             for line in lines:
                 time, _, text = line.decode("ascii").rstrip("\n").partition(" ")
                 yield int(time), text
-        for each in self.latest:
-            yield each.time, each.text
+        yield from map(unpack_line, self.latest)
 
     def close(self) -> None:
         """Removes the file."""

@@ -1,5 +1,4 @@
-"""The state of a journal while it is built: pages, and the address spaces that map them, the queue, what runs, and the journal so
-far. Of a page at rest a number is kept, of a freed one a byte."""
+"""The state of a journal while it is built: pages (at rest a number, of a freed one a byte), address spaces, the queue, what runs."""
 
 from __future__ import annotations
 
@@ -12,20 +11,21 @@ from array import array
 from bisect import bisect_left, bisect_right
 from collections import Counter as Tallies
 from dataclasses import dataclass, field
-from typing import Callable, Dict, Iterable, Iterator, Sequence, Union
+from typing import Any, Callable, Dict, Iterable, Iterator, Sequence, Union
 
 from ..common.files import BASE, PMD_ORDER
 from ..common.journal import FILLING, MOST_CALLERS, SMALL_BLOCKS, SMALL_CALLERS, SMALL_NODES, Event
 from ..common.subpages import bits_of, size
 from .reasons import Doubt, Omission, Reason
 from .records import Kind, Record
-from .scratch import JournalLine, JournalLines
+from .scratch import JournalLines, pack_line
 
 FOREVER = 1 << 64
 LINES = 3  # of a page until it joins the queue: alloc, splitpmd, unmapsub
 SPARE_PLACES = 64  # of an address space's former mappings
-MOST_AWAKE = 4096  # pages that aren't looked at whether they can rest
-PACKED = struct.Struct("<I?4Q")  # a page at rest: number, is_freed, born, last_change, address, address space
+MOST_AWAKE = 1024  # pages that aren't looked at whether they can rest
+PACKED = struct.Struct("<I?4QB4?Q")  # a page at rest, before two larger values: Page.pack
+NUMBER, FREED, HEAD, UNDIVIDED = (1 << 32) - 1, 1 << 32, (1 << 8 * PACKED.size) - 1, 1 << 8 * struct.calcsize("<I?4Q")
 SPARE_BLOCKS = 8  # of a small node, beyond 5/4 of the pages that lived at once: lines are reordered
 
 
@@ -49,21 +49,47 @@ class Page:
     (is_perhaps_taken). It isn't in the journal (is_omitted); its contents were looked at (is_seen); a scan tried it (is_tried); a copy of
     the queue showed it before its task's next record (has_joined). Times: since when it is partly mapped; when a copy first lacked it
     (missed); when it joined the queue or was put back singly (entered); when the last call that reached it was recorded (last_change).
-    `join`: the event by which it joined the queue."""
+    `join`: the line by which it joined the queue. At rest it has these slots alone; to look up another value unpacks it."""
 
-    __slots__ = (
-        "number", "folio", "subpages", "every", "held", "born", "maps", "is_live", "is_omitted", "is_freed", "last_change",
-        "pins", "is_taken", "is_partly_mapped", "partly_since", "split", "freed_frames", "written", "is_seen", "is_tried", "has_joined",
-        "is_perhaps_taken", "missed", "entered", "join")  # of a page at rest these are 0 from `pins` on
+    __slots__ = ("folio", "join", "node", "packed", "__dict__")
 
-    def __init__(self, number: int, folio: int, subpages: int, every: int, born: int) -> None:
-        self.number, self.folio, self.subpages, self.every, self.held, self.born = number, folio, subpages, every, every, born
-        self.maps: tuple[Mapping, ...] = ()
-        self.pins = self.freed_frames = self.written = self.partly_since = self.missed = self.entered = self.last_change = 0
-        self.is_taken = self.is_perhaps_taken = self.is_partly_mapped = self.split = self.is_freed = False
-        self.is_omitted = self.is_seen = self.is_tried = self.has_joined = False
-        self.is_live = True
-        self.join: JournalLine | None = None
+    def __init__(self, folio: int, node: State, packed: int) -> None:
+        self.folio, self.join, self.node, self.packed = folio, 0, node, packed
+        self._unpack()
+
+    def __getattr__(self, name: str) -> Any:
+        if self.packed:
+            changed = {**self.__dict__}
+            self._unpack()
+            self.__dict__.update(changed)
+        return object.__getattribute__(self, name)
+
+    def _unpack(self) -> None:
+        head, every, order = self.packed & HEAD, self.node.every, self.node.order
+        (self.number, self.is_freed, self.born, self.last_change, base, space, self.pins, self.is_seen, self.is_tried, self.has_joined,
+         is_divided, self.partly_since) = PACKED.unpack(head.to_bytes(PACKED.size, "little"))
+        rest = self.packed >> 8 * PACKED.size
+        self.maps: tuple[Mapping, ...] = (Mapping(space, base, not is_divided, every & ~rest, self.born),)
+        self.is_partly_mapped, self.entered = self.partly_since > 0, rest >> (1 << order) ^ self.partly_since
+        self.subpages, self.every, self.held, self.is_live = 1 << order, every, every, True
+        self.is_taken = self.is_perhaps_taken = self.split = False
+        self.freed_frames = self.written = self.missed = self.packed = 0
+        self.node.awake.add(self)
+
+    def pack(self) -> int:
+        """Returns a page's values as a number; 0: it has too many to rest. It is UNDIVIDED at least if it isn't as it was made."""
+        only = self.maps[0] if len(self.maps) == 1 else None
+        if not only or only.since != self.born or any(_rare(self)):
+            return 0
+        head = PACKED.pack(self.number, self.is_freed, self.born, self.last_change, only.base, only.space, self.pins, self.is_seen,
+                           self.is_tried, self.has_joined, not only.whole, self.partly_since)
+        rest: int = self.every ^ only.bits | (self.entered ^ self.partly_since) << self.subpages
+        return int.from_bytes(head, "little") | rest << 8 * PACKED.size  # less than bytes need
+
+    @property
+    def is_omitted(self) -> bool:
+        """Whether it isn't in the journal."""
+        return bool(self.node.omitted[self.packed & NUMBER if self.packed else self.number])
 
     def mapping_in(self, space: int, base: int | None = None) -> Mapping | None:
         """Returns an address space's mapping, if it has one, and if that is at a place."""
@@ -73,11 +99,6 @@ class Page:
         """Returns the subpages that are mapped."""
         return union_of(mapping.bits for mapping in self.maps)
 
-    def first_mapping(self) -> Mapping | None:
-        """Returns the only mapping of a page that is as it was made, except that calls have reached it or its free was recorded."""
-        is_so = len(self.maps) == 1 and self.maps[0].whole and self.maps[0].since == self.born and not any(_changes(self))
-        return self.maps[0] if is_so else None
-
     def counts(self) -> tuple[int, int, int]:
         """Returns what the kernel counts: mappings by PMD entries (which only pages of their size have), all, subpages that PTEs map."""
         has_pmd = self.subpages == 1 << PMD_ORDER
@@ -86,7 +107,7 @@ class Page:
         return whole, whole + sum(map(size, parts)), size(union_of(parts))
 
 
-_changes = operator.attrgetter(*Page.__slots__[Page.__slots__.index("pins") :])
+_rare = operator.attrgetter("is_taken", "is_perhaps_taken", "split", "freed_frames", "written", "missed")
 
 
 class Space:
@@ -116,7 +137,9 @@ class Space:
     def between(self, start: int = 0, end: int = 1 << 64) -> Iterator[tuple[Page, Mapping]]:
         """Yields the pages that live and are mapped from addresses in a range on, with their mappings, by these."""
         near = slice(bisect_left(self.bases, max(start, 0)), bisect_left(self.bases, end))
-        for each, base in zip(self.pages[near], self.bases[near]):
+        pages = self.pages[near]
+        for at, base in enumerate(self.bases[near]):
+            each, pages[at] = pages[at], 0  # a page that is freed meanwhile isn't kept
             page = self._wake(each) if isinstance(each, int) else each
             mapping = page and page.mapping_in(self.number, base)
             if page and mapping:
@@ -129,8 +152,7 @@ Queue = Dict[Page, None]
 
 @dataclass(eq=False)
 class Scan:
-    """A scan that runs: the record of its start, the pages in the queue then, oldest first (None: one of which nothing is known), and
-    those that joined at that time."""
+    """A scan that runs: its start, the pages in the queue then, oldest first (None: one not known), and those that joined at that time."""
 
     start: Record
     pages: list[Page | None]
@@ -144,8 +166,7 @@ class Scan:
 
 @dataclass(eq=False)
 class State:
-    """What the records so far have shown; a node of a journal. Its tries and put-backs are in the order of
-    taking, where the kernel's are reversed (E); with the switch off, its splits keep the frames of mapped subpages (B)."""
+    """A node of a journal so far. Its tries and put-backs are in the order of taking (E); with the switch off, splits keep frames (B)."""
 
     order: int
     underused: int | None  # the threshold of zero-filled subpages; None: the switch is off
@@ -177,12 +198,13 @@ class State:
     _equal: int = 0  # when a copy of the queue was equal to the journal's
     _callers: dict[int, tuple[int, int]] = field(default_factory=dict)  # the journal's numbers of tasks, and the address space of each
     _unused: list[int] = field(default_factory=list)  # the numbers of tasks whose address space has ended, a heap
-    _every: int = 0  # the set of all subpages
+    every: int = 0  # the set of all subpages
+    newest: int = 0  # when the newest page was born
     _live: int = 0
     _most: int = 0  # pages that lived at once
 
     def __post_init__(self) -> None:
-        self._every = bits_of(0, 1 << self.order)
+        self.every = bits_of(0, 1 << self.order)
 
     @functools.cached_property
     def blocks(self) -> int:
@@ -227,14 +249,13 @@ class State:
         return bool(self._doubts) and self._doubts[-1][2] == FOREVER
 
     def doubt_at(self, time: int) -> Doubt | None:
-        """Returns why the events at a time are in doubt: something at or before it. A copy that equals the queue ends the doubt of copies,
-        not that of events: it shows the kernel's order, from which the journal's differs (E)."""
+        """Returns why the events at a time are in doubt. An equal copy ends the doubt of copies, not of events: their order differs (E)."""
         return next((why for why, begin, _ in self._doubts if begin <= time), None)
 
     def emit(self, task: int, page: Page, word: str, first: int = 0, count: int = 0, outcome: str = "", given: int = 0) -> None:
         """Emits an event of a page."""
         event = Event(self.caller_of(task), word, page.number, first, count, outcome, given)
-        self.lines.add(JournalLine(page.number, event.text(), self.now))
+        self.lines.add(pack_line(page.number, self.now, event.text()))
         self.event_counts[word] += 1
 
     def caller_of(self, task: int) -> int:
@@ -264,10 +285,11 @@ class State:
 
     def new_page(self, task: int, space: int, folio: int, address: int) -> Page:
         """Adds a page that an address space maps whole."""
-        page = Page(len(self.omitted), folio, 1 << self.order, self._every, self.now)
+        page = Page(folio, self, self.now << 40 | len(self.omitted))
         self.put_at(page, folio)
         self.omitted.append(False)
-        self.add_mapping(page, Mapping(space, address & -(BASE << self.order), True, self._every, self.now))
+        page.maps, self.newest = (), max(self.newest, self.now)
+        self.add_mapping(page, Mapping(space, address & -(BASE << self.order), True, self.every, self.now))
         self._live += 1
         self._most = max(self._most, self._live)
         self.emit(task, page, "alloc")
@@ -302,30 +324,29 @@ class State:
         """Returns the page that lives at a folio, if there is one."""
         packed = self.resting.pop(folio, None)
         if packed is not None:
-            number, is_freed, born, changed, base, space = PACKED.unpack(packed.to_bytes(PACKED.size, "little"))
-            page = self.at[folio] = Page(number, folio, 1 << self.order, self._every, born)
-            page.is_freed, page.last_change, page.is_omitted = is_freed, changed, bool(self.omitted[number])
-            page.maps = (Mapping(self.spaces[space].number, base, True, self._every, born),)
-            self.spaces[space].replace(base, folio, page)
-            self.awake.add(page)
+            page = self.at[folio] = Page(folio, self, packed)
+            self.spaces[page.maps[0].space].replace(page.maps[0].base, folio, page)
         return self.at.get(folio)
 
     def put_at(self, page: Page, folio: int) -> None:
         """Gives a page its folio. One that had it and whose end isn't recorded yet isn't found there any more."""
         self.page_at(folio)
         page.folio, self.at[folio] = folio, page
-        self.awake.add(page)
 
     def rest_pages(self, used: Iterable[Page]) -> None:
         """Packs the pages at rest, except some that are used, and those of scans."""
         used = {*used, *self.joining.values()}.union(*([*filter(None, scan.pages), *scan.taken] for scan in self.scans.values()))
-        awake, self.awake = self.awake - used, self.awake & used
+        awake, self.awake = self.awake, set()
         for page in awake:
-            first = page.first_mapping()
-            if first and self.at.get(page.folio) is page and first.space in self.spaces:
-                packed = PACKED.pack(page.number, page.is_freed, page.born, page.last_change, first.base, first.space)
-                self.resting[page.folio] = int.from_bytes(packed, "little")  # less than bytes need
-                self.spaces[first.space].replace(first.base, page, page.folio)
+            packed = page.pack() if self.at.get(page.folio) is page else 0
+            if packed >= UNDIVIDED:
+                del page.__dict__
+                page.packed = packed
+            elif page in used:
+                self.awake.add(page)
+            elif packed and page.maps[0].space in self.spaces:
+                self.resting[page.folio] = packed
+                self.spaces[page.maps[0].space].replace(page.maps[0].base, page, page.folio)
                 del self.at[page.folio]
 
     def enqueue(self, page: Page) -> None:
@@ -334,7 +355,7 @@ class State:
         page.entered = self.now
         self.queue[page] = self.journal_queue[page] = None
         self.lines.more = LINES * min(self.lines.more // LINES + 1, len(self.queue))
-        page.join = self.lines.latest[-1] if self.lines.latest else None
+        page.join = self.lines.latest[-1] if self.lines.latest else 0
 
     def dequeue(self, page: Page) -> None:
         """Removes a page from the queue, if it is there."""
@@ -344,14 +365,14 @@ class State:
     def omit(self, page: Page, why: Omission) -> None:
         """Leaves a page out of the journal."""
         if not page.is_omitted:
-            page.is_omitted = self.omitted[page.number] = True
+            self.omitted[page.number] = True
             self.left_out += 1
             self.tallies[why] += 1
 
     def discard(self, page: Page) -> None:
         """Forgets a page that was never mapped: another thread's fault was first."""
         self.left_out -= page.is_omitted
-        page.is_omitted = self.omitted[page.number] = True
+        self.omitted[page.number] = True
         self.never_mapped += 1
         self.remove_page(page)
 
@@ -417,8 +438,3 @@ def journal_lines(nodes: Sequence[State]) -> Iterator[str]:
         yield f"node {number} blocks {node.blocks}{order}" + (f" underused {switch}" if version > 2 else "")
         yield from node.texts()
     yield "end"
-
-
-def journal_text(nodes: Sequence[State]) -> str:
-    """Returns the text of a journal."""
-    return "".join(f"{line}\n" for line in journal_lines(nodes))

@@ -1,5 +1,4 @@
-"""Scans whose batches function tracing has observed: what they took, tried and split, and when. The queue is known at each time then, so
-that scans that overlap are in their order."""
+"""Scans whose batches function tracing has observed: what they took, tried and split, and when; those that overlap are in their order."""
 
 from __future__ import annotations
 
@@ -137,8 +136,7 @@ class TracedScans(ScanEvents):
             self._divide(batch, pages)
 
     def _free_from_others(self, page: Page) -> None:
-        """Ends a batch that holds a page which another has taken: it has put its pages back, and its end is recorded later. If it puts them
-        back singly, and this one later, a call has queued the page meanwhile."""
+        """Ends a batch that holds a page which another has taken. If it puts pages back singly, a call has queued this one meanwhile."""
         for key, scan in [*self.scans.items()]:
             if page in scan.taken and self._held[key][0].puts_singly:
                 self.omit(page, Omission.REQUEUED)

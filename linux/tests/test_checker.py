@@ -20,9 +20,8 @@ from ..record.reasons import Doubt, Reason
 from ..record.recorder import Recording
 from ..record.report import JournalFile, Report
 from ..record.scans import BATCH
-from ..record.state import journal_text
 from .cases import PLAIN, PLAIN_CHECKER, FolderCase
-from .written_records import JournalCase, WrittenRecords, read_recording, store_records
+from .written_records import JournalCase, WrittenRecords, journal_text, read_recording, store_records
 
 BUILT = programs.find("thpcheck", checkers.BUILT)
 EXPLAINING = f"#!/bin/sh\nPLAIN_EXPLAINS=1 exec {PLAIN_CHECKER} \"$@\"\n"

@@ -8,9 +8,8 @@ from typing import Sequence
 
 from ..common.program import Program
 from ..record.reasons import Count
-from ..record.state import journal_text
 from .played_kernel import PlayedKernel
-from .written_records import PLAIN, JournalCase, WrittenRecords, store_records, words_of
+from .written_records import PLAIN, JournalCase, WrittenRecords, journal_text, store_records, words_of
 
 THRESHOLD, THREADS, STEPS, SEED = 100, 4, 400, 3
 # of a wrong kernel: its bug, and what proves it

@@ -15,9 +15,9 @@ from ..record.reasons import Count, Omission, Reason
 from ..record.records import QUEUE_MOST, Kind, Store, parse_record
 from ..record.report import JournalFile
 from ..record.scans import batches_of
-from ..record.state import journal_text
 from .cases import ROOT
-from .written_records import JournalCase, WrittenRecords, folio_of, pack_parts, pack_record, read_recording, store_records, words_of
+from .written_records import (
+    JournalCase, WrittenRecords, folio_of, journal_text, pack_parts, pack_record, read_recording, store_records, words_of)
 
 PARTLY = "alloc 0; splitpmd 0; unmapsub 0 0 8 queued -"  # of a page that is divided
 GONE = "alloc 0; unmapwhole 0 freed 0-511"

@@ -15,7 +15,7 @@ from ..record.calls import MADVISE, MUNMAP
 from ..record.journal_builder import JournalBuilder
 from ..record.reasons import PROVED, Count, Omission
 from ..record.records import HEAD, IN_FAULT, QUEUE_MOST, SET, TORN, Kind, Record, Store
-from ..record.state import journal_text
+from ..record.state import State, journal_lines
 
 SPACE, TASK, OTHER, DAEMON = 0xA000, 7, 12, 90  # an address space and two of its tasks; one of no group, which scans or collapses
 HUGE, BASE, DONTNEED = 1 << 21, 4096, 4
@@ -24,6 +24,11 @@ FOLIO = 0xFFFFEA0000008000 & -(64 * 512)
 WORD = (1 << 64) - 1
 STORED = Path(__file__).resolve().parent / "stored"
 PLAIN = str(Path(__file__).resolve().with_name("plain_program.py"))
+
+
+def journal_text(nodes: Sequence[State]) -> str:
+    """Returns the text of a journal."""
+    return "".join(f"{line}\n" for line in journal_lines(nodes))
 
 
 def folio_of(number: int) -> int:
