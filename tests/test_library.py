@@ -476,7 +476,7 @@ def differs(replay: Path, program: Path, script: Script, options: list[str]) -> 
         if ended.stdout != wanted:
             pairs = zip(ended.stdout.splitlines() + [b"(end)"], wanted.splitlines() + [b"(end)"])
             one, other = next((one, other) for one, other in pairs if one != other)
-            return f"by {way}: {one!r} in place of {other!r}"
+            return f"by {way}: {one!r} instead of {other!r}"
     return None
 
 

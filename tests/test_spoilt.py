@@ -136,7 +136,7 @@ class Spoilt(ProgramCase):
         tried = list(make(spoil))
         counts = (len(tried), sum(1 for _, _, wanted in tried if wanted.status == 2))
         if counts != (number, faulty):
-            return f"{counts[0]} texts, {counts[1]} of them with an error, in place of {number} and {faulty}"
+            return f"{counts[0]} texts, {counts[1]} of them with an error, instead of {number} and {faulty}"
         with Pool() as pool:
             return next((it for it in pool.imap(partial(wrong, self.program), tried, chunksize=200) if it), None)
 
